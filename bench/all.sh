@@ -38,6 +38,9 @@ links
 record
 split 200000000
 archive 200000000
+folder 200000000 400000000
+cut 200000000
+lines
 serve 200000000
 station 5
 station_files 2

@@ -68,7 +68,9 @@ if has nginx openssl; then
     chmod a+rx "$work" "$work/nginx"
     openssl req -x509 -newkey rsa:2048 -nodes -subj /CN=localhost -days 1 -keyout "$work/nginx/key.pem" \
         -out "$work/nginx/certificate.pem" 2>"$work/err"
-    sed "s/127.0.0.1:8000/127.0.0.1:$port/; s/8443/127.0.0.1:$tls/" "$top/examples/station/nginx.conf" >"$work/nginx/station.conf"
+    # Here all listeners have one address.
+    sed "s/127.0.0.1:8000/127.0.0.1:$port/; s/8443/127.0.0.1:$tls/; s/limit_conn addresses 16/limit_conn addresses 100/" \
+        "$top/examples/station/nginx.conf" >"$work/nginx/station.conf"
     cat >"$work/nginx/nginx.conf" <<END
 worker_processes 1;
 pid nginx.pid;
@@ -183,14 +185,28 @@ packets "$work/link.ogg" >"$work/want"
 packets "$work/copy.ogg" >"$work/found"
 check "a mirror of what is live holds its packets from the joining on" cmp <(tail -n "$(wc -l <"$work/found")" "$work/want") "$work/found"
 
-# The unit, and restarts as it makes them.
-unit=$top/examples/station/kudzuturret-station.service
+# The units, and restarts as they make them.
 if has systemd-analyze; then
-    sed "s|/usr/local/bin/kudzuturret|$program|" "$unit" >"$work/kudzuturret-station.service"
-    systemd-analyze verify "$work/kudzuturret-station.service" >"$work/out" 2>&1
-    status=$?
-    check "systemd takes the unit: $(head -n 1 "$work/out")" [ "$status" -eq 0 ]
+    for unit in station archive@; do
+        sed "s|/usr/local/bin/kudzuturret|$program|" "$top/examples/station/kudzuturret-$unit.service" >"$work/kudzuturret-$unit.service"
+        systemd-analyze verify "$work/kudzuturret-$unit.service" >"$work/out" 2>&1
+        status=$?
+        check "systemd takes the unit of $unit: $(head -n 1 "$work/out")" [ "$status" -eq 0 ]
+    done
 fi
+# What the unit of an archive runs, over a stream that is there and one that isn't.
+line=$(sed -n "s|^ExecStart=/bin/bash -c '\(.*\)'$|\1|p" "$top/examples/station/kudzuturret-archive@.service")
+line=${line//\/usr\/local\/bin\/kudzuturret/$program}
+for _ in 1 2; do
+    SOURCE=file://$work/short.ogg STATE_DIRECTORY=$work/archived OPTIONS="--keep 6w" timeout 30 bash -c "$line" 2>"$work/err"
+    check "the unit of an archive records: $(tail -n 1 "$work/err")" [ $? -eq 0 ]
+done
+"$program" packets "$work/short.ogg" >"$work/want"
+"$program" packets "$work/archived" >"$work/found"
+check "the unit of an archive has recorded both times" cmp <(cat "$work/want" "$work/want") "$work/found"
+SOURCE=file://$work/missing.ogg STATE_DIRECTORY=$work/archived OPTIONS= timeout 30 bash -c "$line" 2>"$work/err"
+check "the unit of an archive fails without a stream" [ $? -ne 0 ]
+
 port=$(asking port)
 echo secret >"$work/password"
 for _ in 1 2 3; do

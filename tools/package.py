@@ -4,8 +4,8 @@
     tools/package.py [FOLDER]      none: out/
 
 kudzuturret --package starts it, once all programs are built. The package has the programs, a script kudzuturret that
-runs the one that answers a word, a manual page for each word, what bash completes, a unit for a station under systemd,
-and the docs with the examples. It needs libc6 alone, so one machine proves and many run:
+runs the one that answers a word, a manual page for each word, what bash completes, units for archives and a station
+under systemd, and the docs with the examples. It needs libc6 alone, so one machine proves and many run:
 
     dpkg -i out/kudzuturret_VERSION_amd64.deb
 
@@ -32,7 +32,18 @@ PROGRAMS = ("ogg_archive", "ogg_station", "ogg_main")
 ASKED = TOP / "crates" / PROGRAMS[0] / "out" / PROGRAMS[0]
 LIBRARY = "usr/lib/kudzuturret"
 DOC = "usr/share/doc/kudzuturret"
-UNIT = "kudzuturret-station.service"
+# The units, each with what its user has to do first.
+UNITS = {
+    "kudzuturret-station.service": (
+        "# Put the password into /etc/kudzuturret/password, readable for root alone; then it is started by\n"
+        "# `systemctl enable --now kudzuturret-station`.\n"
+    ),
+    "kudzuturret-archive@.service": (
+        "# Put a line such as `SOURCE=http://127.0.0.1:8000/live` into /etc/kudzuturret/NAME.conf; then it is started by\n"
+        "# `systemctl enable --now kudzuturret-archive@NAME`, and records into /var/lib/kudzuturret-NAME. A second line,\n"
+        "# `OPTIONS=--every 15m --keep-bytes 50000000000`, says otherwise.\n"
+    ),
+}
 
 
 def said(*words: str) -> str:
@@ -119,14 +130,10 @@ complete -o default -F _kudzuturret kudzuturret
 """
 
 
-def unit() -> str:
+def unit(name: str, first: str) -> str:
     """The example of a unit, for a package that has put it and the programs where they belong."""
-    text = (TOP / "examples" / "station" / UNIT).read_text()
-    text = text[text.index("[Unit]") :].replace("/usr/local/bin/", "/usr/bin/")
-    return (
-        "# Put the password into /etc/kudzuturret/password, readable for root alone; then it is started by\n"
-        "# `systemctl enable --now kudzuturret-station`.\n" + text
-    )
+    text = (TOP / "examples" / "station" / name).read_text()
+    return first + text[text.index("[Unit]") :].replace("/usr/local/bin/", "/usr/bin/")
 
 
 def maintainer() -> str:
@@ -214,9 +221,10 @@ def fill(tree: Tree, version: str) -> None:
     for name, page in zip(names, pages.values()):
         tree.put(f"usr/share/man/man1/{name}.1.gz", manual(name, version, page, ["kudzuturret"]))
     tree.put("usr/share/bash-completion/completions/kudzuturret", completion(main, pages))
-    tree.put(f"lib/systemd/system/{UNIT}", unit())
+    for name, first in UNITS.items():
+        tree.put(f"lib/systemd/system/{name}", unit(name, first))
     for at in [TOP / "README.md", *TOP.glob("docs/*.md"), *TOP.glob("docs/*.svg"), *TOP.glob("examples/**/*")]:
-        if at.is_file() and at.name != UNIT:
+        if at.is_file() and at.name not in UNITS:
             tree.copy(f"{DOC}/{at.relative_to(TOP)}", at)
     tree.put(f"{DOC}/changelog.gz", changelog(version))
     tree.put(f"{DOC}/copyright", "No licence is given yet: see README.md.\n")

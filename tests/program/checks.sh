@@ -87,6 +87,6 @@ check "no such check: it says so" grep -q 'there is no nonesuch; ./check --list 
 checks --list
 check "the list has each script" [ "$(grep -c 'tests/program/' "$work/said")" -eq 8 ]
 checks --media
-check "what others wrote: each is tried" says "failed: media fronts player"
+check "what others wrote: each is tried" says "failed: media cut_media archives fronts player"
 
 finish
