@@ -77,6 +77,9 @@ run packets "$work/tagged.ogg" --stream a --headers
 check "the header" [ "$(head -c 8 "$work/out")" = LineHead ]
 check "several streams: the Skeleton has their names" [ "$(grep -ac '^Name: [ab]' "$work/tagged.ogg")" -eq 2 ]
 
+# Files of many streams, which others have made.
+check "many streams" timeout 300 python3 "$here/lining.py" compares "$program" 200 "$work"
+
 # Words that ask for nothing that can be done.
 for words in "--stream a --streams b" "--streams a,,b" "--group 0" "--group 1025" "--media" ; do
     # shellcheck disable=SC2086

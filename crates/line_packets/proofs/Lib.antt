@@ -1,4 +1,4 @@
 pub mod Cutting
 pub mod Putting
 pub mod Reading
-pub mod Splitting
+pub mod Writing

@@ -1,8 +1,8 @@
 pub mod Acks
 pub mod Begin
 pub mod Bitstream
+pub mod Choosing
 pub mod Lines
-pub mod Pieces
 pub mod Placing
 pub mod Standing
 pub mod Taking

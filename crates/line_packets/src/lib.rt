@@ -11,21 +11,20 @@
 mod acks;
 mod begin;
 mod bitstream;
+mod choosing;
 mod front;
 mod laws;
 mod lines;
 mod pages;
-mod pieces;
 mod placing;
 mod streams;
 mod texts;
 
 pub use acks::{Acks, kept_line};
+pub use choosing::{Choosing, Wanted, When};
 pub use laws::lines_are_those_of_the_whole_input;
 pub use lines::Taken;
 pub use ogg_page::Memory;
 pub use pages::{LineFault, LinePages, inputs_go_on};
-pub use pieces::Pieces;
 pub use placing::{LeftOut, left_line};
 pub use streams::Streams;
-pub use texts::{Told, put_json, put_plain};

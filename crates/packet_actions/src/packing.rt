@@ -1,6 +1,6 @@
 //! Packets of a file, or of the files of a folder, as lines.
 
-use crate::streams::{Streams, Wanted};
+use crate::paging::PageLines;
 use archive_cut::{Recorded, is_before, stood_at, time_of};
 use archive_names::Kind;
 use archive_reading::{
@@ -10,9 +10,12 @@ use archive_times::{Line, last_line, next_line};
 use disk_model::{FileDisk, FileMode};
 use fault_lines::Fault;
 use gate_file::GateFile;
-use line_packets::{Pieces, Told, put_json, put_plain};
-use link_index::{Index, PageTaker, fault_at};
-use ogg_page::{Page, PageBuffer, PageSource, PageVisitor, Window, write_whole};
+use import_feed::MakingFault;
+use import_gather::GatherFault;
+use line_packets::{Wanted, When};
+use link_index::fault_at;
+use ogg_command::Listed as Packet;
+use ogg_page::{PageBuffer, PageSource, Window, write_whole};
 use std::alloc::{AllocError, Global};
 use std::fs;
 use std::time::SystemTime;
@@ -44,14 +47,11 @@ pub struct PacketOptions<'a> {
 /// committed bytes can't be found, `Index` if its pages aren't links, `Damaged` if that is so of a file of a folder, which is told,
 /// `NoStream` if no link has the stream, `Memory`, and `Write` if standard output takes no more. What came before is written.
 pub fn packets(rt: &HostRuntime, path: &str, options: PacketOptions<'_>) -> Result<(), Fault> {
-    let wanted = Wanted {
-        stream: options.stream,
-        headers: options.headers,
-    };
+    let wanted = granted(wanted_by(rt.alloc(), options))?;
     let mut writing = Writing {
         rt,
         options,
-        streams: Streams::new(rt.alloc(), wanted),
+        pages: PageLines::new(rt.alloc(), wanted),
         lines: Vec::new(rt.alloc()),
         is_damaged: false,
     };
@@ -64,6 +64,24 @@ pub fn packets(rt: &HostRuntime, path: &str, options: PacketOptions<'_>) -> Resu
     written?;
     out?;
     writing.ended()
+}
+
+/// Which packets the options ask for.
+fn wanted_by(alloc: Global, options: PacketOptions<'_>) -> Result<Wanted, AllocError> {
+    let (name, place) = match options.stream {
+        Some(name) => {
+            let bytes = Packet::of(name.as_bytes().to_vec(alloc)?);
+            (Some(bytes), name.parse::<u64>().ok())
+        }
+        None => (None, None),
+    };
+    Ok(Wanted {
+        name,
+        place,
+        link: options.link.map(u64::from),
+        headers: options.headers,
+        json: options.json,
+    })
 }
 
 /// What memory was granted for.
@@ -139,7 +157,7 @@ struct Given<'a> {
 struct Writing<'a> {
     rt: &'a HostRuntime,
     options: PacketOptions<'a>,
-    streams: Streams<'a>,
+    pages: PageLines,
     // lines that aren't written yet
     lines: Vec<u8>,
     is_damaged: bool,
@@ -166,15 +184,6 @@ fn prefix_of(rt: &HostRuntime, file: &str) -> Result<Prefix<FileDisk>, Fault> {
     }
 }
 
-/// Appends the line of a packet.
-fn put_packet(lines: &mut Vec<u8>, json: bool, told: Told, packet: &[u8]) -> Result<(), Fault> {
-    if json {
-        granted(put_json(lines, told, packet))
-    } else {
-        granted(put_plain(lines, packet))
-    }
-}
-
 fn fault_of(fault: ReadingFault) -> Fault {
     match fault {
         ReadingFault::File => Fault::File,
@@ -183,13 +192,12 @@ fn fault_of(fault: ReadingFault) -> Fault {
     }
 }
 
-/// Takes a page into the index, if it may follow.
-fn take_page(index: &mut Index, offset: u64, page: &Page<'_>) -> Result<(), Fault> {
-    let mut taker = PageTaker::of(index);
-    let _ = taker.see(offset, page);
-    match taker.broken() {
-        None => Ok(()),
-        Some((offset, fault)) => Err(Fault::Index(fault_at(offset, fault))),
+/// The fault of a page that begins at this offset.
+fn page_fault(offset: u64, fault: GatherFault) -> Fault {
+    match fault {
+        GatherFault::Chain(fault) => Fault::Index(fault_at(offset, fault)),
+        GatherFault::PacketTooLong => Fault::Make(MakingFault::PacketTooLong(offset)),
+        GatherFault::Memory => Fault::Memory,
     }
 }
 
@@ -215,7 +223,7 @@ impl Writing<'_> {
         if self.is_damaged {
             return Err(Fault::Damaged);
         }
-        if !self.streams.has_found() {
+        if !self.pages.choosing.has_found() {
             return Err(Fault::NoStream);
         }
         Ok(())
@@ -339,84 +347,45 @@ impl Writing<'_> {
 
     /// Writes the packets that end between two places of a source of pages.
     fn of_source(&mut self, source: Prefix<FileDisk>, given: &mut Given<'_>) -> Result<(), Fault> {
-        let alloc = self.rt.alloc();
-        self.streams.begin_file();
+        self.pages.begin_file();
         let end = given.end.min(source.end());
-        let buffer = granted(PageBuffer::new(alloc))?;
+        let buffer = granted(PageBuffer::new(self.rt.alloc()))?;
         let mut window = Window::new(source, buffer, 0, end);
-        let mut index = Index::new(alloc);
+        let mut at = 0;
         for _ in 0..u64::MAX {
             if window.advance().is_err() {
                 return Err(Fault::File);
             }
             let Some((offset, page)) = window.lent() else {
-                return Ok(());
+                break;
             };
-            take_page(&mut index, offset, &page)?;
-            self.of_page(&page, index.end(), u64::from(index.links()), given)?;
+            at = offset.saturating_add(page.whole().len() as u64);
+            let when = when_at(given, at, self.options.json);
+            if let Err(fault) = self.pages.take_page(&page, when, &mut self.lines) {
+                return Err(page_fault(offset, fault));
+            }
             if self.lines.len() >= TOGETHER {
                 self.write_out()?;
             }
         }
-        Ok(())
-    }
-
-    /// Adds the lines of the packets that end in a page, which ends at this place. It is one of the last of so many links.
-    fn of_page(
-        &mut self,
-        page: &Page<'_>,
-        end: u64,
-        links: u64,
-        given: &mut Given<'_>,
-    ) -> Result<(), Fault> {
-        let link = links.saturating_sub(1);
-        let place = granted(self.streams.place_of(page, link))?;
-        let is_asked = end > given.start && self.is_link(link);
-        let time = match &mut given.times {
-            Some(times) if is_asked && self.options.json => Some(times.at(end)),
-            _ => None,
-        };
-        let told = Told {
-            time,
-            file: given.number,
-            link,
-            serial: u64::from(page.serial()),
-            position: page.position(),
-        };
-        let mut pieces = Pieces::of(page);
-        for _ in 0..u64::MAX {
-            let Some(piece) = pieces.next() else {
-                return granted(self.streams.join(place, pieces.rest()));
-            };
-            granted(self.streams.join(place, piece))?;
-            let wanted = granted(self.streams.takes(place))?;
-            if wanted && is_asked {
-                put_packet(
-                    &mut self.lines,
-                    self.options.json,
-                    told,
-                    self.streams.packet(place),
-                )?;
-            }
-            if let Some((serial, first)) = self.streams.take_late() {
-                if is_asked {
-                    let told = Told {
-                        serial: u64::from(serial),
-                        ..told
-                    };
-                    put_packet(&mut self.lines, self.options.json, told, first.as_slice())?;
-                }
-            }
-            self.streams.end_packet(place);
+        let when = when_at(given, at, self.options.json);
+        match self.pages.end_file(when, &mut self.lines) {
+            Ok(()) => Ok(()),
+            Err(fault) => Err(page_fault(at, fault)),
         }
-        Ok(())
     }
+}
 
-    /// Whether the link with this number is asked for.
-    fn is_link(&self, link: u64) -> bool {
-        match self.options.link {
-            Some(number) => u64::from(number) == link,
-            None => true,
-        }
+/// What is known of packets that end in a page which ends at this place.
+fn when_at(given: &mut Given<'_>, end: u64, json: bool) -> When {
+    let is_asked = end > given.start;
+    let time = match &mut given.times {
+        Some(times) if is_asked && json => Some(times.at(end)),
+        _ => None,
+    };
+    When {
+        time,
+        file: given.number,
+        is_asked,
     }
 }
