@@ -149,8 +149,9 @@ def check_lines(refusals, program, path):
         kept = max((int(line.split()[1]) for line in ran.stdout.splitlines()), default=0)
         given = run([program, "packets", path.rstrip("/")]).stdout
         done = ran.returncode == 0 and given == text and kept == 20
-        told = refusals.tells(ran) and text.startswith(given) and given.count(b"\n") >= kept
-        if not (done or told):
+        # A fault is told, whichever it is, and what was refused before.
+        told = ran.returncode in (1, 2) and ran.stderr.splitlines()[-1:][0].startswith((b"fault ", b"error"))
+        if not (done or told and text.startswith(given) and given.count(b"\n") >= kept):
             refusals.say("lines %s, request %d: status %d, %d kept, %d there, %r"
                          % (path, call, ran.returncode, kept, given.count(b"\n"), ran.stderr[-200:]))
     if run([program, "packets", path.rstrip("/")]).stdout != text:
