@@ -139,6 +139,14 @@ for words in "$work/killed.ogg" "$work/killed/ --most-bytes 100000" "$work/singl
     check "killed, $words: something was kept" grep -qE '"kept": [1-9]' "$work/sent"
 done
 
+# Writers of feeds, for those who have packets that aren't lines.
+cc -O2 -o "$work/sensor" "$top/examples/sensor.c" || exit 1
+PROGRAM=$program timeout 20 "$top/examples/sensor.py" "$work/python.ogg" <"$work/whole" >"$work/out" 2>"$work/err"
+check "examples/sensor.py: status" [ $? -eq 0 ]
+gives "examples/sensor.py" "$work/whole" "$work/python.ogg" --stream sensor
+timeout 20 "$work/sensor" <"$work/whole" | run record "$work/c.ogg" --renumber
+gives "examples/sensor.c" "$work/whole" "$work/c.ogg" --stream sensor
+
 # What sensors say, if there are such programs here.
 if command -v vmstat >"$work/which"; then
     timeout 20 bash -c '(vmstat 1 3) | "$0" lines "$1" --acks' "$program" "$work/vmstat/" >"$work/out" 2>"$work/err"
