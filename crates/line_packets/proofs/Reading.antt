@@ -71,11 +71,11 @@ module _ (media : List ℕ) (streams : Streams)
   -- the last line was taken, if there is one
   pub ends : (input line : List ℕ) (taken : List Taken) → HasRead input taken line [] → (position : ℕ) (entries : List Entry)
       → entries ≡ flat_map (entries_of streams position) (ended_by line) → (is : Bool) (chain : ChainState) (pages : List ℕ)
-      → HasPut media streams is chain (flat_map (entries_in streams) taken ++ entries) pages → HasEnded media streams input pages
+      → HasPut media streams is chain (flat_map (entries_in streams) taken ++ entries) pages
+      → HasEnded media streams input (taken ++ (position, ended_by line) ∷ []) pages
   ends input line taken read position entries are is chain pages put =
       let now : List Taken = taken ++ (position, ended_by line) ∷ [] in
       record {
-        taken = now;
         lines_are = ap (λ front. front ++ ended_by (rest_from [] input)) (read.lines_are ∙ append-nil (flat_map lines_in taken))
             ∙ ap (λ rest. flat_map lines_in taken ++ ended_by rest) read.rest_is
             ∙ sym (with_last lines_in taken (position, ended_by line));

@@ -49,11 +49,10 @@ pub record HasRead (input : List ℕ) (taken : List Taken) (line unread : List �
   pub lines_are : lines_from [] input ≡ flat_map lines_in taken ++ lines_from line unread
   pub rest_is : rest_from [] input ≡ rest_from line unread
 
--- Of this input all but `unread` was taken, and these are the pages of its lines so far.
-pub record Stands (media : List ℕ) (run : LinePages) (input unread pages : List ℕ) : Type 0 where
+-- Of this input these lines were taken, all but `unread`, and these are their pages.
+pub record Stands (media : List ℕ) (run : LinePages) (input : List ℕ) (taken : List Taken) (unread pages : List ℕ) : Type 0 where
   pub line : List ℕ
   pub front_is : run.lines.front ≡ short line
-  pub taken : List Taken
   pub has_read : HasRead input taken line unread
   pub has_put : HasPut media run.lines.streams run.has_begun run.bitstream.shape.chain (flat_map (entries_in run.lines.streams) taken) pages
 
@@ -74,8 +73,7 @@ abbrev pub HoldsLines : List ℕ → Streams → List Taken → List ℕ → Typ
 HoldsLines media streams taken pages = ((flat_map (entries_in streams) taken ≡ []) × (pages ≡ []))
     ⊎ (time : ℕ) × (begin : Begin) × BeginsAt time media streams begin × Holds pages (recorded begin (flat_map (entries_in streams) taken))
 
--- The input has ended, and these are the pages of all its lines.
-pub record HasEnded (media : List ℕ) (streams : Streams) (input pages : List ℕ) : Type 0 where
-  pub taken : List Taken
+-- The input has ended, and these are all its lines, and their pages.
+pub record HasEnded (media : List ℕ) (streams : Streams) (input : List ℕ) (taken : List Taken) (pages : List ℕ) : Type 0 where
   pub lines_are : lines_of input ≡ flat_map lines_in taken
   pub holds : HoldsLines media streams taken pages

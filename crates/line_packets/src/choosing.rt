@@ -491,7 +491,9 @@ impl Choosing {
     }
 
     /// Whether a stream that is asked for was found, or each is.
-    pub fn has_found(&self) -> bool {
+    pub fn has_found(&self) -> bool
+        ensures { result ≡ self.now.has_found }
+    {
         self.has_found
     }
 
@@ -540,6 +542,7 @@ impl Choosing {
     /// Another file begins: its links are counted from 0.
     pub fn begin_file(&mut self)
         ensures wanted { self.new.wanted ≡ self.old.wanted }
+        ensures found { self.new.has_found ≡ self.old.has_found }
         ensures link { self.new.link ≡ no_link }
     {
         self.link = Link::new(*self.link.names.allocator());

@@ -1,12 +1,12 @@
 //! The lines of an input, as the pages of a bitstream.
-ghost use Rattle.std.specs.Prelude.{◌≡◌, ◌<◌, ◌^◌, ◌++◌, [], List, ℕ, IfOk, OnOk, length, false, true, MatchResult, Ok, Err};
+ghost use Rattle.std.specs.Prelude.{◌≡◌, ◌<◌, ◌^◌, ◌++◌, ◌∷◌, [], List, ℕ, max, min, IfOk, OnOk, length, false, true, MatchResult, Ok, Err};
 ghost use Rattle.ogg_page.specs.Page.{Page};
 ghost use Rattle.ogg_command.specs.Command.{IsCommand};
 ghost use Rattle.ogg_command.specs.declared.command.Entry.{Entry as EntryOf};
 ghost use Rattle.link_chain.specs.ChainState.{chain_state_of};
 ghost use Rattle.line_packets.specs.Bitstream.{Adds};
 ghost use Rattle.line_packets.specs.declared.pages.LinePages.{LinePages as LinePagesOf};
-ghost use Rattle.line_packets.specs.Standing.{HasEnded, HasPut, Stands, put_of};
+ghost use Rattle.line_packets.specs.Standing.{HasEnded, HasPut, Stands, Taken as TakenOf, put_of};
 
 use crate::Memory;
 use crate::bitstream::Bitstream;
@@ -46,7 +46,7 @@ fn put_of(entries: Vec<Entry>) -> Command
 impl LinePages {
     /// Nothing has come yet of lines that go to these streams. It takes no memory.
     pub fn new(alloc: Global, streams: Streams) -> LinePages
-        ensures stands { (media : List ℕ) → Stands media result [] [] [] }
+        ensures stands { (media : List ℕ) → Stands media result [] [] [] [] }
         ensures streams { result.lines.streams ≡ streams }
     {
         LinePages {
@@ -124,8 +124,11 @@ impl LinePages {
         pages: &mut Vec<u8>,
     ) -> Result<Taken<'a>, LineFault>
         requires { length piece.now < 2 ^ 62 }
-        ensures stands { (input before : List ℕ) → Stands media.now self.old input piece.now before → IfOk result (λ taken.
-            (more : List ℕ) × (pages.new.items ≡ pages.old.items ++ more) × Stands media.now self.new input taken.rest.now (before ++ more)) }
+        // Their packets have this time as position, or that of the line before, if it is later.
+        ensures stands { (input before : List ℕ) (taken : List TakenOf) → Stands media.now self.old input taken piece.now before → IfOk result (λ took.
+            (more : List ℕ) × (done : List (List ℕ)) × (pages.new.items ≡ pages.old.items ++ more)
+            × Stands media.now self.new input (taken ++ (self.new.lines.last, done) ∷ []) took.rest.now (before ++ more)) }
+        ensures position { OnOk result (self.new.lines.last ≡ max self.old.lines.last (min time 9223372036854775807)) }
         ensures streams { self.new.lines.streams ≡ self.old.lines.streams }
     {
         let mut entries = Vec::new(*pages.allocator());
@@ -146,9 +149,10 @@ impl LinePages {
         media: &[u8],
         pages: &mut Vec<u8>,
     ) -> Result<(u64, Option<LeftOut>), LineFault>
-        ensures ended { (input before : List ℕ) → Stands media.now self.old input [] before → OnOk result
-            ((more : List ℕ) × (pages.new.items ≡ pages.old.items ++ more)
-            × HasEnded media.now self.old.lines.streams input (before ++ more)) }
+        ensures ended { (input before : List ℕ) (taken : List TakenOf) → Stands media.now self.old input taken [] before → OnOk result
+            ((more : List ℕ) × (done : List (List ℕ)) × (pages.new.items ≡ pages.old.items ++ more)
+            × HasEnded media.now self.old.lines.streams input (taken ++ (self.new.lines.last, done) ∷ []) (before ++ more)) }
+        ensures position { OnOk result (self.new.lines.last ≡ max self.old.lines.last (min time 9223372036854775807)) }
     {
         commands_add_their_packets();
         let mut entries = Vec::new(*pages.allocator());
@@ -164,6 +168,6 @@ impl LinePages {
 
 /// The next piece of an input has come, of which all was taken.
 pub fn inputs_go_on()
-    ensures { (media : List ℕ) (run : LinePagesOf) (input piece pages : List ℕ) → Stands media run input [] pages
-        → Stands media run (input ++ piece) piece pages }
+    ensures { (media : List ℕ) (run : LinePagesOf) (input piece pages : List ℕ) (taken : List TakenOf) → Stands media run input taken [] pages
+        → Stands media run (input ++ piece) taken piece pages }
 {}
