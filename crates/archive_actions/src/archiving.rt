@@ -67,7 +67,11 @@ fn archive_file(rt: &HostRuntime, file: &str, options: ArchiveOptions) -> Result
 
 /// Opens the file, which is made if there is none, and ends what an earlier run left open in it. What follows its pages
 /// is kept beside it first, unless a stop may have left that.
-pub(crate) fn open_ended(rt: &HostRuntime, file: &str, most: u32) -> Result<Recorder<FileDisk>, Fault> {
+pub(crate) fn open_ended(
+    rt: &HostRuntime,
+    file: &str,
+    most: u32,
+) -> Result<Recorder<FileDisk>, Fault> {
     let disk = lock_file(rt, file, FileMode::Create)?;
     match ended_on(rt.alloc(), disk, &mut TailFiles::of(rt, file), most) {
         Ok((recorder, _)) => Ok(recorder),

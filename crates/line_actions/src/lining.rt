@@ -2,8 +2,8 @@
 ghost use Rattle.archive_record.specs.Files.{AllKept};
 
 use archive_actions::{
-    FileRecording, Filing, FolderRecording, Keeper, Recording, granted, is_folder, lock_folder, now,
-    with_slash,
+    FileRecording, Filing, FolderRecording, Keeper, Recording, granted, is_folder, lock_folder,
+    now, with_slash,
 };
 use archive_folder::{Folder, SystemFolder};
 use archive_record::{ArchiveNames, Rules};
