@@ -16,7 +16,7 @@ use Rattle.chain_rules.specs.Encoding.{command_bytes, links_after}
 use Rattle.chain_rules.specs.Commands.{AreKept, bytes_of_commands, links_behind}
 use Rattle.line_packets.specs.Begin.{BeginsAt}
 use Rattle.line_packets.specs.Bitstream.{Adds}
-use Rattle.line_packets.specs.Standing.{ArePuts, HasPut, put_of}
+use Rattle.line_packets.specs.Pages.{ArePuts, HasPut, put_of}
 use Rattle.line_packets.specs.declared.streams.Streams.{Streams}
 
 pub none_of : (entries : List Entry) → length entries ≡ 0 → entries ≡ []

@@ -11,7 +11,7 @@ use Rattle.chain_rules.specs.Commands.{AreKept, bytes_of_commands}
 use Rattle.chain_rules.specs.Recording.{Holds, Stream, add, after, begun_link, with_packet}
 use Rattle.line_packets.specs.Lines.{lines_from, rest_from}
 use Rattle.line_packets.specs.Placing.{entries_of}
-use Rattle.line_packets.specs.Standing.{HasEnded, HasPut, HasRead, HoldsLines, Taken, entries_in, ended_by, lines_in, put_of, recorded}
+use Rattle.line_packets.specs.Pages.{HasEnded, HasPut, HasRead, HoldsLines, Taken, entries_in, ended_by, lines_in, put_of, recorded}
 use Rattle.line_packets.specs.declared.streams.Streams.{Streams}
 use Rattle.line_packets.proofs.Cutting.{lines_from-append, rest_from-append}
 

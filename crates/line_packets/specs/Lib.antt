@@ -4,6 +4,6 @@ pub mod Bitstream
 pub mod Choosing
 pub mod Lines
 pub mod Placing
-pub mod Standing
+pub mod Pages
 pub mod Taking
 pub mod Texts

@@ -5,7 +5,7 @@
 //! leaves out is told. It asks no clock: the time is an argument.
 //!
 //! Start at `specs/Lines.antt`, which says what the lines of an input are, at `specs/Placing.antt`, which says what
-//! becomes of each, and at `specs/Standing.antt`, which says what the pages hold at the end.
+//! becomes of each, and at `specs/Pages.antt`, which says what the pages hold at the end.
 #![tactic(auto)]
 
 mod acks;

@@ -6,7 +6,7 @@ ghost use Rattle.ogg_command.specs.declared.command.Entry.{Entry as EntryOf};
 ghost use Rattle.link_chain.specs.ChainState.{chain_state_of};
 ghost use Rattle.line_packets.specs.Bitstream.{Adds};
 ghost use Rattle.line_packets.specs.declared.pages.LinePages.{LinePages as LinePagesOf};
-ghost use Rattle.line_packets.specs.Standing.{HasEnded, HasPut, Stands, Taken as TakenOf, put_of};
+ghost use Rattle.line_packets.specs.Pages.{HasEnded, HasPut, Stands, Taken as TakenOf, put_of};
 
 use crate::Memory;
 use crate::bitstream::Bitstream;

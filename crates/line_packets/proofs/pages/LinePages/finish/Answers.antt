@@ -1,7 +1,7 @@
 use Rattle.std.proofs.Common.{◌++◌, ◌∷◌, [], ℕ, ◌∙◌, ap, sym, subst}
 use Rattle.std.specs.List.{flat_map}
 use Rattle.line_packets.specs.Lines.{short}
-use Rattle.line_packets.specs.Standing.{HasEnded, HasPut, ended_by, entries_in}
+use Rattle.line_packets.specs.Pages.{HasEnded, HasPut, ended_by, entries_in}
 use Rattle.line_packets.specs.declared.lines.Lines.{Lines}
 use Rattle.line_packets.specs.declared.streams.Streams.{Streams}
 use Rattle.line_packets.proofs.Reading.{ends, last_line}

@@ -1,6 +1,6 @@
 use Rattle.std.proofs.Common.{◌≡◌, ◌++◌, ◌∙◌, length, ap, arith}
 use Rattle.std.proofs.lemmas.Result.{on_ok_weaker}
-use Rattle.line_packets.specs.Standing.{HasPut}
+use Rattle.line_packets.specs.Pages.{HasPut}
 use Rattle.line_packets.specs.declared.pages.LinePages.{LinePages}
 use Rattle.line_packets.proofs.Putting.{none_of, puts, same, moved, twice}
 use Rattle.line_packets.proofs.pages.LinePages.put.Goals as goal

@@ -2,7 +2,7 @@ use Rattle.std.proofs.Common.{◌++◌, ◌∷◌, [], ◌∙◌, List, ℕ, ap,
 use Rattle.std.specs.List.{flat_map}
 use Rattle.ogg_command.specs.declared.command.Entry.{Entry}
 use Rattle.line_packets.specs.Placing.{entries_of}
-use Rattle.line_packets.specs.Standing.{HasPut, Stands, entries_in}
+use Rattle.line_packets.specs.Pages.{HasPut, Stands, entries_in}
 use Rattle.line_packets.specs.declared.lines.Lines.{Lines}
 use Rattle.line_packets.specs.declared.streams.Streams.{Streams}
 use Rattle.line_packets.proofs.Reading.{has_put_on, read_on}
