@@ -4,4 +4,5 @@ pub mod FilesState
 pub mod Filing
 pub mod Opening
 pub mod Resting
+pub mod Rotating
 pub mod Spelling

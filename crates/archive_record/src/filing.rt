@@ -7,13 +7,114 @@ ghost use Rattle.archive_record.specs.Filing.{HasExactly};
 ghost use Rattle.archive_record.specs.Resting.{IsAtRest};
 
 use crate::archive::ArchiveFault;
+use crate::damage::Damage;
 use crate::ending::end_open;
 use crate::files::Files;
+use crate::opening::open_sound;
 use archive_folder::{FileName, Folder};
 use disk_model::{Disk, DiskFault};
 use file_recorder::Recorder;
 use gate_file::OpenFault;
 use std::alloc::Global;
+
+/// Why the newest file isn't gone on with.
+pub(crate) enum Left {
+    /// Memory was refused.
+    Memory,
+    /// Another file has this number, which is its own.
+    Twice(u64),
+    /// It is left exactly as it is.
+    Damaged(FileName, Damage),
+}
+
+/// Opens the newest file of a folder, if there is one that can be gone on with, and ends what is open in it. Every other
+/// is left as it is.
+pub(crate) fn open_newest<D: Disk + Drop, F: Folder<File = D>>(
+    alloc: Global,
+    files: &mut Files<F>,
+    most: u32,
+) -> Result<Option<(FileName, Recorder<D>)>, Left>
+    // Only what rests is recorded into.
+    ensures rests { IfOk result (λ newest. IfSome newest (λ (file, r). IsAtRest r)) }
+{
+    if let [.., other, newest] = files.names() {
+        if other.number == newest.number {
+            return Err(Left::Twice(newest.number));
+        }
+    }
+    let name = match files.names() {
+        [.., newest] => *newest,
+        [] => return Ok(None),
+    };
+    match open_last(alloc, files) {
+        Ok(recorder) => open_ended(files, name, recorder, most),
+        Err(Damage::Open(OpenFault::Memory)) => Err(Left::Memory),
+        Err(why) => Err(Left::Damaged(name, why)),
+    }
+}
+
+/// A recorder on the newest file, in which nothing waits. If there is none, it is with the folder.
+pub(crate) fn open_last<D: Disk + Drop, F: Folder<File = D>>(
+    alloc: Global,
+    files: &mut Files<F>,
+) -> Result<Recorder<D>, Damage>
+    ensures fresh { IfOk result (λ r. (r.file.failed ≡ false) × (r.held ≡ 0)) }
+{
+    if !files.is_free() {
+        return Err(Damage::Unreadable);
+    }
+    match files.open_newest() {
+        Ok(Some((name, disk))) => match open_sound(alloc, disk) {
+            Ok(recorder) => Ok(recorder),
+            Err((why, disk)) => {
+                give_back(files, name, disk);
+                Err(why)
+            }
+        },
+        Ok(None) | Err(DiskFault) => Err(Damage::Unreadable),
+    }
+}
+
+/// Ends what is open in a file that was opened. One that goes on with another and holds no page is ended, and passed over.
+fn open_ended<D: Disk + Drop, F: Folder<File = D>>(
+    files: &mut Files<F>,
+    name: FileName,
+    recorder: Recorder<D>,
+    most: u32,
+) -> Result<Option<(FileName, Recorder<D>)>, Left>
+    requires { recorder.held ≡ 0 }
+    ensures rests { IfOk result (λ newest. IfSome newest (λ (file, r). IsAtRest r)) }
+    ensures named { IfOk result (λ newest. IfSome newest (λ (file, r). file ≡ name)) }
+    ensures passed { name.goes_on ≡ true → recorder.file.end ≡ 0 → result ≡ Ok None }
+{
+    if recorder.end() == 0 && name.goes_on {
+        if files.is_out(name.number) {
+            end_file(files, name, recorder);
+        }
+        return Ok(None);
+    }
+    match ended(recorder, most) {
+        Ok(recorder) => Ok(Some((name, recorder))),
+        Err(recorder) => {
+            give_back(files, name, recorder.give_back());
+            Err(Left::Damaged(name, Damage::Open(OpenFault::Disk)))
+        }
+    }
+}
+
+/// Gives a file back that is handed out.
+pub(crate) fn give_back<D: Disk + Drop, F: Folder<File = D>>(
+    files: &mut Files<F>,
+    name: FileName,
+    disk: D,
+)
+    ensures free { files.old.out ≡ Some name.number → files.new.out ≡ None }
+    ensures files { files.new.files ≡ files.old.files }
+{
+    if files.is_out(name.number) {
+        files.give_back(name.number, disk);
+    }
+}
 
 /// Cuts the file to its pages and gives it back, unless its disk has failed or a command waits: then it is given back as
 /// it stands. Returns whether it is cut.

@@ -5,6 +5,9 @@
 //!
 //! `open_sound` says which file can be gone on with, and leaves every other exactly as it is.
 //!
+//! `Rotation` begins, opens and ends the files in turn, throws old ones away, and has the lines of times written. Whoever
+//! records has the newest file's recorder: `Archive`, which records an input, or a station.
+//!
 //! Start at `specs/Files.antt`, which says what is known of a folder's files, and at `specs/Opening.antt`.
 #![tactic(auto)]
 
@@ -19,8 +22,9 @@ mod newest;
 mod opening;
 mod recovery;
 mod retention;
+mod rotation;
 
-pub use archive::{Archive, ArchiveFault, Rules};
+pub use archive::{Archive, ArchiveFault};
 pub use archive_folder::FileName;
 pub use beside::Beside;
 pub use damage::Damage;
@@ -28,3 +32,4 @@ pub use ending::{Unended, end_open};
 pub use files::{BeginFault, Files};
 pub use naming::{ArchiveNames, name_of, text_of};
 pub use opening::open_sound;
+pub use rotation::{Rotation, Rules};

@@ -2,7 +2,7 @@
 ghost use Rattle.std.specs.Prelude.{◌≡◌, None};
 
 use archive_folder::FileName;
-use archive_times::{Join, Line};
+use archive_times::Join;
 use disk_model::Disk;
 use feed_replies::Reply;
 use feed_runner::Runner;
@@ -33,25 +33,29 @@ fn join_of(command: &Command, reply: Reply, before: u64, after: u64) -> Option<J
 }
 
 impl<D: Disk> Newest<D> {
+    /// A file that was opened or begun.
+    pub(crate) fn on(name: FileName, recorder: Recorder<D>) -> Newest<D>
+        ensures { result ≡ record { name = name; recorder = recorder; join = None } }
+    {
+        Newest {
+            name,
+            recorder,
+            join: None,
+        }
+    }
+
     /// Whether a link more would be refused, and none is open.
     pub(crate) fn is_full(&self) -> bool {
         self.recorder.links() >= MOST_LINKS && !is_open(self.recorder.streams())
     }
 
-    /// The line of times that is to be written after `last`, if what is committed says more. Of a file in which nothing is
-    /// committed none is written, so that the first commit's comes at once.
-    pub(crate) fn line(&self, last: Option<Line>, now: u64) -> Option<Line>
-        ensures nothing { self.now.recorder.file.end ≡ 0 → result ≡ None }
-    {
-        if self.recorder.end() == 0 {
-            return None;
-        }
-        let join = if is_open(self.recorder.streams()) {
+    /// Where the link that is open is joined, if one is and that is known.
+    pub(crate) fn open_join(&self) -> Option<Join> {
+        if is_open(self.recorder.streams()) {
             self.join
         } else {
             None
-        };
-        Line::after(last, self.recorder.end(), now, join)
+        }
     }
 }
 

@@ -1,14 +1,12 @@
 //! The recording goes on after the disk has failed.
-ghost use Rattle.std.specs.Prelude.{◌≡◌, IfOk, false};
 
-use crate::archive::{Archive, ArchiveFault, give_back, open_last, serials_of};
+use crate::archive::{Archive, ArchiveFault, serials_of};
 use crate::beside::Beside;
 use crate::damage::Damage;
 use crate::newest::Newest;
 use archive_folder::{FileName, Folder};
 use archive_times::Join;
 use disk_model::{Disk, Memory};
-use file_recorder::Recorder;
 use gate_file::OpenFault;
 use import_record::{Answered, ImportRun, RecordFault, run_all};
 use link_chain::is_open;
@@ -40,7 +38,7 @@ impl<D: Disk + Drop, F: Folder<File = D> + Drop> Archive<D, F> {
         let Some(failed) = self.give_back_newest() else {
             return Ok(Answered::nothing());
         };
-        if self.make_room(beside) {
+        if self.rotation.make_room(beside) {
             return self.open_again(failed, import, now, beside);
         }
         match self.count_loss(committed) {
@@ -58,7 +56,7 @@ impl<D: Disk + Drop, F: Folder<File = D> + Drop> Archive<D, F> {
             join,
         } = self.newest.take()?;
         let (serials, end) = (serials_of(self.alloc, &recorder), recorder.end());
-        give_back(&mut self.files, name, recorder.give_back());
+        self.rotation.give_back(name, recorder.give_back());
         Some(Failed {
             name,
             join,
@@ -107,35 +105,19 @@ impl<D: Disk + Drop, F: Folder<File = D> + Drop> Archive<D, F> {
         now: u64,
         beside: &mut B,
     ) -> Result<Answered, ArchiveFault> {
-        match self.open_last(beside) {
+        match self.rotation.open_again(beside) {
             Ok(recorder) => {
-                let mut newest = newest_on(failed.name, recorder, self.rules.most);
+                let mut newest = Newest::on(failed.name, recorder);
                 if is_open(newest.recorder.streams()) {
                     newest.join = failed.join;
                 }
-                self.last = beside.opened(newest.name, newest.recorder.end());
+                self.rotation
+                    .opened(newest.name, newest.recorder.end(), beside);
                 self.resume(import, newest)
             }
             Err(Damage::Open(OpenFault::Memory)) => Err(ArchiveFault::Memory),
             Err(why) => self.set_aside(failed, why, import, now, beside),
         }
-    }
-
-    /// A recorder on the newest file, which is with the folder. If no room is left to open it, the oldest files go.
-    pub(crate) fn open_last<B: Beside>(&mut self, beside: &mut B) -> Result<Recorder<D>, Damage>
-        ensures fresh { IfOk result (λ r. (r.file.failed ≡ false) × (r.held ≡ 0)) }
-    {
-        for _ in 0..self.tries() {
-            match open_last(self.alloc, &mut self.files) {
-                Ok(recorder) => return Ok(recorder),
-                Err(why) => {
-                    if !self.make_room(beside) {
-                        return Err(why);
-                    }
-                }
-            }
-        }
-        Err(Damage::Unreadable)
     }
 
     /// Goes on in a file that was opened again.
@@ -156,18 +138,5 @@ impl<D: Disk + Drop, F: Folder<File = D> + Drop> Archive<D, F> {
             Ok(answered) => Ok(answered),
             Err(_) => Err(ArchiveFault::Input(RecordFault::Write)),
         }
-    }
-}
-
-/// A file that was opened again.
-fn newest_on<D: Disk>(name: FileName, recorder: Recorder<D>, most: u32) -> Newest<D> {
-    let mut recorder = recorder;
-    if recorder.held() == 0 {
-        recorder.group(most.clamp(1, 1024));
-    }
-    Newest {
-        name,
-        recorder,
-        join: None,
     }
 }

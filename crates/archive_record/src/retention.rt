@@ -2,10 +2,11 @@
 
 ghost use Rattle.std.specs.Prelude.{◌≡◌, None, false};
 
-use crate::archive::{Archive, ArchiveFault};
+use crate::archive::ArchiveFault;
 use crate::beside::Beside;
 use crate::files::Files;
 use crate::naming::name_of;
+use crate::rotation::Rotation;
 use archive_folder::{FileName, Folder};
 use archive_names::{Going, Held, Keeping, next_for_room, next_to_go};
 use disk_model::{Disk, DiskFault};
@@ -42,7 +43,8 @@ fn stands_twice(files: &[FileName], at: usize, number: u64) -> bool {
 
 /// What stands under a name. A file that can't be looked at is never thrown away.
 fn look<F: Folder>(files: &mut Files<F>, name: FileName, last: u64) -> Held
-    ensures { files.new.files ≡ files.old.files }
+    ensures files { files.new.files ≡ files.old.files }
+    ensures out { files.new.out ≡ files.old.out }
 {
     match files.facts(name) {
         Ok(facts) => Held {
@@ -58,9 +60,12 @@ fn look<F: Folder>(files: &mut Files<F>, name: FileName, last: u64) -> Held
     }
 }
 
-impl<D: Disk + Drop, F: Folder<File = D> + Drop> Archive<D, F> {
+impl<D: Disk + Drop, F: Folder<File = D> + Drop> Rotation<F> {
     /// What stands under each name is noted, in the order of the files, if something may have to be thrown away.
-    pub(crate) fn look_at_all(&mut self, now: u64) -> Result<(), ArchiveFault> {
+    pub(crate) fn look_at_all(&mut self, now: u64) -> Result<(), ArchiveFault>
+        ensures out { self.new.files.out ≡ self.old.files.out }
+        ensures rules { self.new.rules ≡ self.old.rules }
+    {
         if !throws(self.rules.keeping) {
             return Ok(());
         }
@@ -105,8 +110,9 @@ impl<D: Disk + Drop, F: Folder<File = D> + Drop> Archive<D, F> {
         }
     }
 
-    /// Throws away what is to be thrown away at this time, oldest first.
-    pub(crate) fn throw_away<B: Beside>(&mut self, now: u64, beside: &mut B) {
+    /// Throws away what is to be thrown away at this time in milliseconds since 1970, oldest first, and tells it. Call it
+    /// when the folder was opened, and when what begins a new file is kept.
+    pub fn throw_away<B: Beside>(&mut self, now: u64, beside: &mut B) {
         let mut gone: usize = 0;
         for _ in 0..self.held.len() {
             let Some(going) = next_to_go(self.held.as_slice(), self.rules.keeping, now, gone) else {
@@ -124,8 +130,8 @@ impl<D: Disk + Drop, F: Folder<File = D> + Drop> Archive<D, F> {
     }
 
     /// If a call has failed as no room is left, and only so many bytes are kept, the oldest file goes that may. Returns
-    /// whether one did.
-    pub(crate) fn make_room<B: Beside>(&mut self, beside: &mut B) -> bool
+    /// whether one did. The file that is handed out is given back first.
+    pub fn make_room<B: Beside>(&mut self, beside: &mut B) -> bool
         ensures bound { self.old.rules.keeping.bytes ≡ None → (result ≡ false) × (self.new ≡ self.old) × (beside.new ≡ beside.old) }
     {
         if self.rules.keeping.bytes.is_none() || !self.files.is_full() {
