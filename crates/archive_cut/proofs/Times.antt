@@ -1,5 +1,6 @@
 -- Times divide the commands of a file.
-use Rattle.std.proofs.Common.{◌≡◌, ℕ, ◌+◌, ◌<◌, ◌≤◌, true, List, [], ◌∷◌, ◌++◌, length, map, refl, sym, ◌∙◌, ap, subst, arith, append_assoc, length-append, inl, inr, Ok}
+use Rattle.std.proofs.Common.{◌≡◌, ℕ, ◌+◌, ◌<◌, ◌≤◌, true, None, List, [], ◌∷◌, ◌++◌, length, map, take, refl, sym, ◌∙◌, ap, subst, arith, append_assoc, length-append, inl, inr, Ok}
+use Rattle.std.proofs.lemmas.List.{append-nil, take_at}
 use Rattle.std.specs.Prelude.{nat_eq, ◌⊎◌}
 use Rattle.std.specs.List.{AllByRecursion, list_any}
 use Rattle.ogg_page.specs.Page.{Page, bytes_of_pages, page_bytes}
@@ -17,8 +18,11 @@ use Rattle.chain_rules.specs.Encoding.{command_bytes, links_after, pages_of_comm
 use Rattle.chain_rules.specs.Recording.{after}
 use Rattle.archive_times.specs.declared.line.Line.{Line}
 use Rattle.archive_times.specs.Asked.{RiseFrom, offset_at, offset_of}
+use Rattle.archive_times.specs.Times.{AreTimes}
+use Rattle.archive_cut.specs.declared.placing.Recorded.{Recorded}
 use Rattle.archive_cut.specs.Parts.{all_of}
-use Rattle.archive_cut.specs.Times.{AddUp, AreBoundaries, AreCutsOf, ArePartsTo, IsBoundary, IsDivided, NeverFall}
+use Rattle.archive_cut.specs.Placing.{stood_at}
+use Rattle.archive_cut.specs.Times.{AddUp, AreBoundaries, AreBytesTo, AreCutsOf, ArePartsTo, IsBoundary, IsDivided, NeverFall, stood}
 use Rattle.archive_cut.proofs.Below.{Adds, Below}
 use Rattle.archive_cut.proofs.Ends.{at_serial}
 use Rattle.archive_cut.proofs.Whole.{all_from, bytes_both, cut_of, kept_both, kept_size, no_links}
@@ -134,13 +138,11 @@ places_rise : TimesBelow → (lines : List Line) (start : ℕ) (times : List ℕ
 places_rise below lines start [] rise h = tt
 places_rise below lines start (time ∷ times) rise h = (below.rises 0 start time lines rise h.0, places_rise below lines time times rise h.1)
 
-pub times_divide : Adds → AddsPages → TimesBelow → (commands : List Command) (lines : List Line) (start : ℕ) (times : List ℕ) → AllByRecursion IsCommand commands →
-    AreKept [] commands → RiseFrom 0 lines → AreBoundaries commands lines → NeverFall start times → IsDivided commands lines start times
-times_divide adds pages below commands lines start times cs kept rise at h =
-    let first : IsBoundary commands (offset_at 0 lines start) = boundary_at below commands lines start at in
-    let d : ArePartsOf first.before first.after (map (offset_at 0 lines) times) =
-    divide adds pages commands first.before first.after (map (offset_at 0 lines) times) cs kept first.split (boundaries_at below commands lines times at)
-    (subst (λ n. NeverFall n (map (offset_at 0 lines) times)) first.place_is (places_rise below lines start times rise h)) in
+pub places_divide : Adds → AddsPages → (commands : List Command) (start : ℕ) (places : List ℕ) → AllByRecursion IsCommand commands →
+    AreKept [] commands → IsBoundary commands start → AllByRecursion (IsBoundary commands) places → NeverFall start places → IsDivided commands start places
+places_divide adds pages commands start places cs kept first at rise =
+    let d : ArePartsOf first.before first.after places =
+    divide adds pages commands first.before first.after places cs kept first.split at (subst (λ n. NeverFall n places) first.place_is rise) in
     record {
       front = first.before;
       parts = d.parts;
@@ -149,6 +151,25 @@ times_divide adds pages below commands lines start times cs kept rise at h =
       starts = first.place_is;
       are_parts = d.are;
     }
+
+-- ---- the bytes up to a place
+bytes_to : (commands front rest : List Command) (place : ℕ) → commands ≡ front ++ rest → place ≡ length (bytes_of_commands [] front) →
+    take place (bytes_of_commands [] commands) ≡ bytes_of_commands [] front
+bytes_to commands front rest place split at =
+    ap (λ l. take place (bytes_of_commands [] l)) split
+    ∙ ap (λ l. take place l) (bytes_both [] front rest)
+    ∙ take_at (bytes_of_commands [] front) (bytes_of_commands (links_behind [] front) rest) place (sym at)
+
+all_bytes_to : (commands front : List Command) (parts : List (List Command)) (back : List Command) (places : List ℕ) →
+    commands ≡ front ++ (all_of parts ++ back) → ArePartsTo front parts places → AreBytesTo (bytes_of_commands [] commands) front parts places
+all_bytes_to commands front [] back places split are = tt
+all_bytes_to commands front (part ∷ parts) back [] split are = absurd are
+all_bytes_to commands front (part ∷ parts) back (place ∷ places) split are =
+    let next : commands ≡ (front ++ part) ++ (all_of parts ++ back) =
+    split ∙ ap (λ l. front ++ l) (append_assoc part (all_of parts) back) ∙ sym (append_assoc front part (all_of parts ++ back)) in (
+      bytes_to commands (front ++ part) (all_of parts ++ back) place next are.0,
+      all_bytes_to commands (front ++ part) parts back places next are.1,
+    )
 
 -- ---- the cuts of the parts
 front_of : (front rest back : List Command) (P : List Command → Type 0) → ((xs ys : List Command) → P (xs ++ ys) → P xs) → P (front ++ (rest ++ back)) → P (front ++ rest)
@@ -164,17 +185,59 @@ are_cuts below front (part ∷ parts) cs kept = (
       (subst (AreKept []) (sym (append_assoc front part (all_of parts))) kept),
 )
 
-pub add_up : Below → AddsPages → TimesBelow → (commands : List Command) (lines : List Line) (start : ℕ) (times : List ℕ) → AllByRecursion IsCommand commands →
-    AreKept [] commands → RiseFrom 0 lines → AreBoundaries commands lines → NeverFall start times → AddUp commands lines start times
-add_up below pages times_below commands lines start times cs kept rise at h =
-    let d : IsDivided commands lines start times = times_divide below.adds pages times_below commands lines start times cs kept rise at h in
+pub places_add_up : Below → AddsPages → (commands : List Command) (start : ℕ) (places : List ℕ) → AllByRecursion IsCommand commands →
+    AreKept [] commands → IsBoundary commands start → AllByRecursion (IsBoundary commands) places → NeverFall start places → AddUp commands start places
+places_add_up below pages commands start places cs kept first at rise =
+    let d : IsDivided commands start places = places_divide below.adds pages commands start places cs kept first at rise in
     let own : AllByRecursion IsCommand (d.front ++ all_of d.parts) =
     front_of d.front (all_of d.parts) d.back (AllByRecursion IsCommand) (λ xs ys h. (all_split IsCommand xs ys h).0) (subst (AllByRecursion IsCommand) d.split cs) in
     let kept_own : AreKept [] (d.front ++ all_of d.parts) =
     front_of d.front (all_of d.parts) d.back (AreKept []) (λ xs ys h. (kept_both [] xs ys h).0) (subst (AreKept []) d.split kept) in
     record {
       divided = d;
+      begins = bytes_to commands d.front (all_of d.parts ++ d.back) start d.split d.starts;
+      bytes = all_bytes_to commands d.front d.parts d.back places d.split d.are_parts;
       parts = are_cuts below d.front d.parts own kept_own;
       whole = cut_of below d.front (all_of d.parts) own kept_own;
       sum = all_from below.adds d.front d.parts own kept_own;
     }
+
+-- by the lines alone
+pub lines_add_up : Below → AddsPages → TimesBelow → (commands : List Command) (lines : List Line) (start : ℕ) (times : List ℕ) → AllByRecursion IsCommand commands →
+    AreKept [] commands → RiseFrom 0 lines → AreBoundaries commands lines → NeverFall start times → AddUp commands (offset_at 0 lines start) (map (offset_at 0 lines) times)
+lines_add_up below pages times_below commands lines start times cs kept rise at h =
+    places_add_up below pages commands (offset_at 0 lines start) (map (offset_at 0 lines) times) cs kept (boundary_at times_below commands lines start at)
+    (boundaries_at times_below commands lines times at) (places_rise times_below lines start times rise h)
+
+-- ---- where the file stood
+-- what is said of where a file stands
+pub record StandsBelow : Type 0 where
+  pub rises : (file : Recorded) (lines : List Line) (earlier later : ℕ) → AreTimes file.committed None lines → earlier ≤ later →
+      (stood_at file lines earlier).offset ≤ (stood_at file lines later).offset
+  pub known : (file : Recorded) (lines : List Line) (time : ℕ) → list_any (nat_eq (stood_at file lines time).offset) (0 ∷ file.committed ∷ map offset_of lines) ≡ true
+
+boundary_stood : StandsBelow → (commands : List Command) (file : Recorded) (lines : List Line) (time : ℕ) → AreBoundaries commands lines →
+    file.committed ≡ length (bytes_of_commands [] commands) → IsBoundary commands (stood file lines time)
+boundary_stood below commands file lines time h all =
+    at_serial (IsBoundary commands) (stood file lines time) (0 ∷ file.committed ∷ map offset_of lines) (
+      record { before = []; after = commands; split = refl; place_is = refl },
+      (record { before = commands; after = []; split = sym (append-nil commands); place_is = all }, boundaries commands lines h),
+    ) (below.known file lines time)
+
+boundaries_stood : StandsBelow → (commands : List Command) (file : Recorded) (lines : List Line) (times : List ℕ) → AreBoundaries commands lines →
+    file.committed ≡ length (bytes_of_commands [] commands) → AllByRecursion (IsBoundary commands) (map (stood file lines) times)
+boundaries_stood below commands file lines [] h all = tt
+boundaries_stood below commands file lines (time ∷ times) h all =
+    (boundary_stood below commands file lines time h all, boundaries_stood below commands file lines times h all)
+
+stood_rise : StandsBelow → (file : Recorded) (lines : List Line) (start : ℕ) (times : List ℕ) → AreTimes file.committed None lines → NeverFall start times →
+    NeverFall (stood file lines start) (map (stood file lines) times)
+stood_rise below file lines start [] are h = tt
+stood_rise below file lines start (time ∷ times) are h = (below.rises file lines start time are h.0, stood_rise below file lines time times are h.1)
+
+pub stood_add_up : Below → AddsPages → StandsBelow → (commands : List Command) (file : Recorded) (lines : List Line) (start : ℕ) (times : List ℕ) → AllByRecursion IsCommand commands →
+    AreKept [] commands → AreTimes file.committed None lines → AreBoundaries commands lines → file.committed ≡ length (bytes_of_commands [] commands) →
+    NeverFall start times → AddUp commands (stood file lines start) (map (stood file lines) times)
+stood_add_up below pages stands commands file lines start times cs kept are at all h =
+    places_add_up below pages commands (stood file lines start) (map (stood file lines) times) cs kept (boundary_stood stands commands file lines start at all)
+    (boundaries_stood stands commands file lines times at all) (stood_rise stands file lines start times are h)

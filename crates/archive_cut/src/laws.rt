@@ -26,12 +26,12 @@ ghost use Rattle.archive_cut.specs.Finished.{EndWell, finished_bytes};
 ghost use Rattle.archive_cut.specs.Joined.{AreNextFiles, CanGoOn, FileRecording, GoesOn, HoldsFile, NextFile, continued, joined_link, joined_streams, names_in_order, open_in, with_files, with_recordings};
 ghost use Rattle.archive_cut.specs.Packets.{IsCutBetween, IsCutMidway, all_ended, begun_by, cut_recording, ended_with, packets_for};
 ghost use Rattle.archive_cut.specs.Parts.{IsCutOf, all_of, cut_at, joined_cut, joined_cuts, nothing, place_after, start_of};
-ghost use Rattle.archive_times.specs.Asked.{RiseFrom, offset_of};
+ghost use Rattle.archive_times.specs.Asked.{RiseFrom, offset_at, offset_of};
 ghost use Rattle.archive_times.specs.Times.{AreTimes};
 ghost use Rattle.archive_cut.specs.Placing.{stood_at};
 ghost use Rattle.archive_cut.specs.declared.placing.Recorded.{Recorded as RecordedOf};
 ghost use Rattle.archive_times.specs.declared.line.Line.{Line as LineOf};
-ghost use Rattle.archive_cut.specs.Times.{AddUp, AreBoundaries, NeverFall};
+ghost use Rattle.archive_cut.specs.Times.{AddUp, AreBoundaries, IsBoundary, NeverFall, stood};
 ghost use Rattle.archive_cut.specs.Retold.{HasSameRest, fields_change, fields_of, head_of, names_of, page_change, retold};
 
 use archive_times::{lines_are_known_by_their_text, the_place_of_a_time};
@@ -111,13 +111,22 @@ pub fn cuts_are_given()
         → IsCutting moment committed new (given ++ take count buffer) }
 {}
 
-/// Times divide the commands of a file whose lines of times stand between commands. So the cuts from each time to the
-/// next hold what was committed between the two, and over any division of a span of time they add up: each packet
-/// stands once.
+/// Places between commands divide the commands of a file, and so do times. The cuts from each place to the next hold what
+/// was committed between the two, and over any division of a span of time they add up: each packet stands once.
 pub fn cuts_of_times_add_up()
-    ensures { (commands : List CommandOf) (lines : List LineOf) (start : ℕ) (times : List ℕ) → AllByRecursion IsCommand commands
+    ensures places { (commands : List CommandOf) (start : ℕ) (places : List ℕ) → AllByRecursion IsCommand commands
+        → AreKept [] commands → IsBoundary commands start → AllByRecursion (IsBoundary commands) places → NeverFall start places
+        → AddUp commands start places }
+    // By lines of times alone.
+    ensures lines { (commands : List CommandOf) (lines : List LineOf) (start : ℕ) (times : List ℕ) → AllByRecursion IsCommand commands
         → AreKept [] commands → RiseFrom 0 lines → AreBoundaries commands lines → NeverFall start times
-        → AddUp commands lines start times }
+        → AddUp commands (offset_at 0 lines start) (map (offset_at 0 lines) times) }
+    // By lines of times, the file's name, and that of the next file, as `stood_at` tells where the file stood.
+    ensures stood { (commands : List CommandOf) (file : RecordedOf) (lines : List LineOf) (start : ℕ) (times : List ℕ)
+        → AllByRecursion IsCommand commands → AreKept [] commands
+        → AreTimes file.committed None lines → AreBoundaries commands lines
+        → file.committed ≡ length (bytes_of_commands [] commands) → NeverFall start times
+        → AddUp commands (stood file lines start) (map (stood file lines) times) }
 {
     commands_add_their_packets();
     command_adds_pages();
@@ -125,6 +134,7 @@ pub fn cuts_of_times_add_up()
     what_is_heard_is_a_chain();
     sessions_hear_what_is_committed();
     the_place_of_a_time();
+    files_stand_in_order();
 }
 
 /// A file stands no earlier at a later time, and always at its beginning, at a line, or at the end of what is committed. So

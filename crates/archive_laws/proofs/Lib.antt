@@ -1,0 +1,4 @@
+mod Accepted
+mod Calls
+mod Cuts
+mod Shown
