@@ -2,11 +2,11 @@
 use Rattle.std.proofs.Common.{◌≡◌, ◌≢◌, inl, inr, ℕ, ◌+◌, ◌≤◌, List, [], ◌∷◌, ◌++◌, length, take, drop, get_or, refl, sym, ◌∙◌, ap, subst, arith, append_assoc, append-nil, length-append}
 use Rattle.std.proofs.lemmas.Bool.{cases_eq}
 use Rattle.std.proofs.lemmas.List.{take_at}
-use Rattle.disk_model.specs.Image.{DiskState, IsImage, IsWithin, overwritten, after_cut}
-use Rattle.disk_model.specs.Torn.{IsTorn, KeepsFront, front_image}
-use Rattle.gate_file.specs.Commit.{CommitsToEither, ArePages}
+use Rattle.disk_model.specs.Image.{DiskState, IsImage, IsWithin, IsSettled, overwritten, after_cut}
+use Rattle.disk_model.specs.Torn.{IsTorn, KeepsFront, front_image, settled_image}
+use Rattle.gate_file.specs.Commit.{CommitsTo, CommitsToEither, ArePages}
 use Rattle.gate_file.specs.CommitLaws.{commits_closed, commits_to, pages_both, pages_begin}
-use Rattle.gate_file.specs.Gate.{StagesWhole}
+use Rattle.gate_file.specs.Gate.{EachImage, StagesWhole}
 use Rattle.gate_file.proofs.Crash.{torn_gate, opened}
 use Rattle.gate_file.proofs.Staged.{length_left}
 
@@ -60,3 +60,8 @@ opened_end b all contents image gate at joined pages some is whole torn =
           (image_is ∙ ap (λ (x : ℕ). b ++ x ∷ drop 1 all) open_gate ∙ ap (λ (l : List ℕ). b ++ l) (first_there all pages some) ∙ sym (append-nil (b ++ all))) tt)
       | inr shut ↦ inl (commits_closed b image (get_or image at 0) (drop 1 all) joined shut image_is)
     ]
+
+-- nothing follows the pages, and every image commits to them
+pub each_commits : (b all : List ℕ) (disk : DiskState) → ArePages b → ArePages all → IsSettled disk → disk.contents ≡ b ++ all → EachImage disk (CommitsTo (b ++ all))
+each_commits b all disk joined pages settled whole = λ image is.
+    commits_to (b ++ all) [] image (pages_both b all joined pages) (settled_image disk disk.contents image settled is ∙ whole ∙ sym (append-nil (b ++ all))) tt

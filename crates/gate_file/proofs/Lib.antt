@@ -1,4 +1,5 @@
 pub mod Crash
+pub mod Cutting
 pub mod Ends
 pub mod Kept
 pub mod Moment

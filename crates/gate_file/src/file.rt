@@ -10,7 +10,7 @@ ghost use Rattle.gate_file.specs.GateFile.{committed, staged_bytes};
 ghost use Rattle.gate_file.specs.Reading.{OnlyReads};
 
 use crate::committing::{append_pages, commit_staged};
-use crate::sealing::cut_behind;
+use crate::sealing::{commit_cut, cut_behind};
 use crate::staging::{stage_last_pages, stage_pages};
 use disk_model::{Disk, DiskFault};
 use std::marker::Model;
@@ -225,6 +225,41 @@ impl<D: Disk> GateFile<D> {
         self.whole = false;
         self.failed = false;
         Ok(())
+    }
+
+    /// Commits what is staged, if anything is, and cuts the file to its committed bytes, by four calls of the disk: a cut
+    /// of what follows the staged bytes, a sync, the write of the one byte that decides, a sync. So it takes a sync less
+    /// than `commit` and then `seal`. After a fault the file has failed, and opening finds the bytes that were committed
+    /// before, without the staged ones or with all of them.
+    pub fn commit_and_seal(self) -> Result<D, (DiskFault, GateFile<D>)>
+        requires good { self.failed ≡ false }
+        requires whole { self.staged ≢ 0 → self.whole ≡ true }
+
+        ensures sealed { IfOk result (λ disk. D.is_honest self.disk
+            → IsSettled (D.state disk)
+            × ((D.state disk).contents ≡ committed D.state self ++ staged_bytes D.state self)) }
+        ensures failed { IfErr result (λ e. e.1 ≡ gate_state e.1.disk self.end self.staged self.whole true) }
+        ensures front { IfErr result (λ e. D.is_honest self.disk
+            → committed D.state e.1 ≡ committed D.state self) }
+
+        // Every image since the call began commits to the bytes before, without the staged ones or with them.
+        ensures any_moment { IfOk result (λ disk. D.is_honest self.disk
+            → LeavesOnly D.Disk self.disk disk
+            (CommitsToEither (committed D.state self) (staged_bytes D.state self))) }
+        ensures any_moment_err { IfErr result (λ e. D.is_honest self.disk
+            → LeavesOnly D.Disk self.disk e.1.disk
+            (CommitsToEither (committed D.state self) (staged_bytes D.state self))) }
+        ensures only { IfOk result (λ disk. D.is_honest self.disk → EachImage (D.state disk)
+            (CommitsTo (committed D.state self ++ staged_bytes D.state self))) }
+        ensures frame { IfOk result (λ disk. Frame D.Disk self.disk disk ⊥) }
+        ensures frame_err { IfErr result (λ e. Frame D.Disk self.disk e.1.disk ⊤) }
+    {
+        let mut file = self;
+        file.failed = true;
+        match commit_cut(&mut file.disk, file.end, file.staged) {
+            Ok(()) => Ok(file.give_back()),
+            Err(fault) => Err((fault, file)),
+        }
     }
 
     /// Cuts the file to its committed bytes and syncs. After a fault the disk is given back: opening finds the same

@@ -1,4 +1,4 @@
-use Rattle.std.proofs.Common.{◌≡◌, List, ℕ, take}
+use Rattle.std.proofs.Common.{◌≡◌, take}
 use Rattle.disk_model.specs.Leaving.{started, goes_on}
 use Rattle.disk_model.specs.Torn.{front_image, image_within}
 use Rattle.gate_file.proofs.Cutting.{front_image_cut}
