@@ -6,6 +6,7 @@ pub mod Opened
 pub mod Passed
 pub mod Refused
 mod Reopened
+mod Sealed
 mod Small
 pub mod Stepping
 pub mod Walked

@@ -37,6 +37,16 @@ impl<D: Disk> Recorder<D> {
         ensures stands { (first : Recording) (w : World CommandOf) → IsIn D.Disk first w self.old
             → IsIn D.Disk first w self.new }
     {
+        self.regroup(most);
+    }
+
+    /// From now on `most` commands share a commit, which are more than wait. What waits still does.
+    pub fn regroup(&mut self, most: u32)
+        requires { self.old.held < most }
+        ensures set { self.new ≡ recorder_state self.old.file self.old.chain self.old.tail self.old.kept self.old.held most }
+        ensures stands { (first : Recording) (w : World CommandOf) → IsIn D.Disk first w self.old
+            → IsIn D.Disk first w self.new }
+    {
         self.most = most;
     }
 

@@ -6,14 +6,14 @@ ghost use Rattle.disk_model.specs.Fault.{HasCause};
 ghost use Rattle.disk_model.specs.Frame.{Frame};
 ghost use Rattle.link_chain.specs.Recording.{Recording};
 ghost use Rattle.link_chain.specs.declared.chain_fault.ChainFault.{ChainFault as ChainFaultOf};
-ghost use Rattle.gate_file.specs.Commit.{CommitsTo};
+ghost use Rattle.gate_file.specs.Commit.{CommitsTo, CommitsToEither};
 ghost use Rattle.gate_file.specs.Gate.{EachImage, EndsAt};
 ghost use Rattle.gate_file.specs.Reading.{OnlyReads};
 ghost use Rattle.gate_file.specs.Opening.{Opens, GivesBack};
 ghost use Rattle.chain_rules.specs.Recording.{add};
 ghost use Rattle.ogg_command.specs.declared.command.Command.{Command as CommandOf};
 ghost use Rattle.history.specs.Showing.{IsAsBefore};
-ghost use Rattle.history.specs.World.{World, Opening, Opened, Sealing, Sealed, Looked, Faulted, happens};
+ghost use Rattle.history.specs.World.{World, Opening, Opened, Flushing, Flushed, Sealing, Sealed, Looked, Faulted, happens};
 ghost use Rattle.history.specs.History.{StandsIn};
 ghost use Rattle.file_recorder.specs.Recovery.{Commits, Shows};
 ghost use Rattle.file_recorder.specs.Taking.{HoldsChain, IsBrokenAt, IsUnfinished};
@@ -242,6 +242,67 @@ impl<D: Disk> Recorder<D> {
         ensures frame_err { IfErr result (λ e. Frame D.Disk self.file.disk e.1 ⊤) }
     {
         self.file.seal()
+    }
+
+    /// Commits what waits, and cuts the file to its committed bytes, by four calls of the disk, of which two are syncs.
+    /// After a fault the recorder has failed, what waited is lost, and opening finds what was kept, without this group or
+    /// with all of it.
+    pub fn flush_and_seal(self) -> Result<D, (DiskFault, Recorder<D>)>
+        requires { self.file.failed ≡ false }
+
+        ensures sealed { IfOk result (λ disk. D.is_honest self.file.disk
+            → IsSettled (D.state disk) × ((D.state disk).contents ≡ committed D.state self ++ staged D.state self)) }
+        ensures faulted { IfErr result (λ e. (e.1.file.failed ≡ true) × (e.1.file.end ≡ self.file.end)
+            × (e.1 ≡ recorder_state e.1.file self.chain self.tail self.kept 0 self.most)) }
+        ensures front { IfErr result (λ e. D.is_honest self.file.disk → committed D.state e.1 ≡ committed D.state self) }
+
+        // Every image since the call began commits to what was committed, without the group or with all of it.
+        ensures any_moment { IfOk result (λ disk. D.is_honest self.file.disk → LeavesOnly D.Disk self.file.disk disk
+            (CommitsToEither (committed D.state self) (staged D.state self))) }
+        ensures any_moment_err { IfErr result (λ e. D.is_honest self.file.disk → LeavesOnly D.Disk self.file.disk e.1.file.disk
+            (CommitsToEither (committed D.state self) (staged D.state self))) }
+
+        // It is two steps of each history in which the recorder stands: what waited is kept, and the file is sealed.
+        ensures step { IfOk result (λ disk. (first : Recording) (w : World CommandOf) → IsIn D.Disk first w self
+            → D.is_honest self.file.disk
+            → IsRecorderStep D.Disk first w Flushed self.file.disk disk
+            × IsRecorderStep D.Disk first (happens w Flushed) Sealed disk disk) }
+        ensures step_err { IfErr result (λ e. (first : Recording) (w : World CommandOf) → IsIn D.Disk first w self
+            → D.is_honest self.file.disk
+            → IsRecorderStep D.Disk first w (Faulted Flushing) self.file.disk e.1.file.disk
+            × IsIn D.Disk first (happens w (Faulted Flushing)) e.1) }
+
+        ensures frame { IfOk result (λ disk. Frame D.Disk self.file.disk disk ⊥) }
+        ensures frame_err { IfErr result (λ e. Frame D.Disk self.file.disk e.1.file.disk ⊤) }
+    {
+        let Recorder {
+            file,
+            shape,
+            plan,
+            buffer,
+            small,
+            tail,
+            kept,
+            most,
+            ..
+        } = self;
+        match file.commit_and_seal() {
+            Ok(disk) => Ok(disk),
+            Err((fault, file)) => Err((
+                fault,
+                Recorder {
+                    file,
+                    shape,
+                    plan,
+                    buffer,
+                    small,
+                    tail,
+                    kept,
+                    held: 0,
+                    most,
+                },
+            )),
+        }
     }
 
     /// The disk as it stands. What waits is lost.
