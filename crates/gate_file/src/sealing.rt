@@ -2,12 +2,11 @@
 ghost use Rattle.std.specs.Prelude.{◌≡◌, ◌≢◌, ◌↔◌, ◌+◌, ◌^◌, ◌<◌, ◌≤◌, ◌++◌, length, take, OnOk, IsErr};
 ghost use Rattle.disk_model.specs.Image.{IsSettled};
 ghost use Rattle.disk_model.specs.Leaving.{LeavesOnly};
-ghost use Rattle.disk_model.specs.Torn.{KeepsFront};
 ghost use Rattle.disk_model.specs.Frame.{Frame};
 ghost use Rattle.gate_file.specs.Commit.{CommitsTo, CommitsToEither};
 ghost use Rattle.gate_file.specs.Gate.{EachImage, IsReadyAt, IsStaged, IsStagedWhole, staged_in};
 
-use crate::steps::{CAPTURE, write_synced};
+use crate::steps::{CAPTURE, cut_synced, write_synced};
 use disk_model::{Disk, DiskFault};
 
 /// Cuts what stands after the first `end` bytes, which are committed, and syncs.
@@ -68,20 +67,4 @@ fn commit_some<D: Disk>(disk: &mut D, end: u64, staged: u64) -> Result<(), DiskF
 {
     cut_synced(disk, end + 1, end + staged)?;
     write_synced(disk, end, &[CAPTURE])
-}
-
-/// Cuts, and syncs. Every image begins with the first `kept` bytes.
-fn cut_synced<D: Disk>(disk: &mut D, kept: u64, to: u64) -> Result<(), DiskFault>
-    requires behind { kept ≤ to }
-    requires to { D.is_honest disk.old → to ≤ length (D.state disk.old).contents }
-    requires keeps { D.is_honest disk.old
-        → KeepsFront kept (take kept (D.state disk.old).synced) (D.state disk.old) }
-    ensures ok { OnOk result (D.is_honest disk.old → IsSettled (D.state disk.new)
-        × ((D.state disk.new).contents ≡ take to (D.state disk.old).contents)) }
-    ensures any_moment { D.is_honest disk.old → LeavesOnly D.Disk disk.old disk.new
-        (λ image. take kept image ≡ take kept (D.state disk.old).synced) }
-    ensures frame { Frame D.Disk disk.old disk.new (IsErr result) }
-{
-    disk.cut(to)?;
-    disk.sync()
 }

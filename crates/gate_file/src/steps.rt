@@ -37,6 +37,22 @@ pub(crate) fn write_synced<D: Disk>(disk: &mut D, at: u64, bytes: &[u8]) -> Resu
     disk.sync()
 }
 
+/// Cuts, and syncs. Every image begins with the first `kept` bytes.
+pub(crate) fn cut_synced<D: Disk>(disk: &mut D, kept: u64, to: u64) -> Result<(), DiskFault>
+    requires behind { kept ≤ to }
+    requires to { D.is_honest disk.old → to ≤ length (D.state disk.old).contents }
+    requires keeps { D.is_honest disk.old
+        → KeepsFront kept (take kept (D.state disk.old).synced) (D.state disk.old) }
+    ensures ok { OnOk result (D.is_honest disk.old → IsSettled (D.state disk.new)
+        × ((D.state disk.new).contents ≡ take to (D.state disk.old).contents)) }
+    ensures any_moment { D.is_honest disk.old → LeavesOnly D.Disk disk.old disk.new
+        (λ image. take kept image ≡ take kept (D.state disk.old).synced) }
+    ensures frame { Frame D.Disk disk.old disk.new (IsErr result) }
+{
+    disk.cut(to)?;
+    disk.sync()
+}
+
 /// Writes after bytes that every image begins with. Further such writes may follow, and then a sync.
 pub(crate) fn write_behind<D: Disk>(
     disk: &mut D,

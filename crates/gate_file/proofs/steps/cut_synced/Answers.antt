@@ -2,7 +2,7 @@ use Rattle.std.proofs.Common.{◌≡◌, take}
 use Rattle.disk_model.specs.Leaving.{started, goes_on}
 use Rattle.disk_model.specs.Torn.{front_image, image_within}
 use Rattle.gate_file.proofs.Cutting.{front_image_cut}
-use Rattle.gate_file.proofs.sealing.cut_synced.Goals as goal
+use Rattle.gate_file.proofs.steps.cut_synced.Goals as goal
 
 pub returns-in_err-cut-clause-any_moment : goal.returns-in_err-cut-clause-any_moment
 returns-in_err-cut-clause-any_moment g c = λ honest.
