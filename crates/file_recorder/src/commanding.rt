@@ -37,17 +37,16 @@ impl<D: Disk> Recorder<D> {
         ensures stands { (first : Recording) (w : World CommandOf) → IsIn D.Disk first w self.old
             → IsIn D.Disk first w self.new }
     {
-        self.regroup(most);
+        self.most = most;
     }
 
-    /// From now on `most` commands share a commit, which are more than wait. What waits still does.
-    pub fn regroup(&mut self, most: u32)
-        requires { self.old.held < most }
-        ensures set { self.new ≡ recorder_state self.old.file self.old.chain self.old.tail self.old.kept self.old.held most }
+    /// From now on every command waits until it is flushed, or sealed with the file. What waits still does.
+    pub fn hold_all(&mut self)
+        ensures set { self.new ≡ recorder_state self.old.file self.old.chain self.old.tail self.old.kept self.old.held (2 ^ 32 - 1) }
         ensures stands { (first : Recording) (w : World CommandOf) → IsIn D.Disk first w self.old
             → IsIn D.Disk first w self.new }
     {
-        self.most = most;
+        self.most = u32::MAX;
     }
 
     /// Records a command. First the rules may refuse it, then want of memory, then the disk. Memory is taken for the
