@@ -51,6 +51,17 @@ pub struct SystemFile<F: OpenFile + FileExt + Drop> {
     last: Option<FaultKind>,
 }
 
+impl<F: OpenFile + FileExt + Drop> SystemFile<F> {
+    /// A file that was opened. It may be that it was never synced.
+    pub fn over(file: F) -> SystemFile<F> {
+        SystemFile {
+            file,
+            is_new: true,
+            last: None,
+        }
+    }
+}
+
 impl<
     F: OpenFile + FileExt + Drop,
     R: Files<File = F> + Alloc + Clone + Drop,
@@ -198,11 +209,7 @@ impl<
     fn create_new(&mut self, name: FileName) -> Result<FileDisk<SystemFile<F>>, FaultKind> {
         let path = self.path_of(name)?;
         match File::create_new(&self.rt, path.as_str()) {
-            Ok(file) => Ok(FileDisk::over(SystemFile {
-                file,
-                is_new: true,
-                last: None,
-            })),
+            Ok(file) => Ok(FileDisk::over(SystemFile::over(file))),
             Err(error) => Err(kind_of(&error)),
         }
     }
@@ -218,11 +225,7 @@ impl<
         options.read(true);
         options.write(true);
         match options.open(&self.rt, path.as_str()) {
-            Ok(file) => Ok(FileDisk::over(SystemFile {
-                file,
-                is_new: true,
-                last: None,
-            })),
+            Ok(file) => Ok(FileDisk::over(SystemFile::over(file))),
             Err(error) => Err(kind_of(&error)),
         }
     }

@@ -36,11 +36,12 @@ pub enum Action<'a> {
         strict: bool,
         seal: bool,
     },
-    /// The file for any number of connections to the address, at most `listeners` at once. What comes on standard input
-    /// is recorded into the file meanwhile, and with a password file what connections send. With `seal` the file is sealed
-    /// once standard input has ended, and with `log` each connection gets a line.
+    /// The file, or the newest of the folder, for any number of connections to the address, at most `listeners` at once.
+    /// What comes on standard input is recorded into it meanwhile, and with a password file what connections send. With
+    /// `seal` it is sealed once standard input has ended, and with `log` each connection gets a line.
     Station {
-        file: &'a str,
+        path: &'a str,
+        filing: Filing,
         address: &'a str,
         password_file: Option<&'a str>,
         listeners: u32,

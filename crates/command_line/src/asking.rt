@@ -81,6 +81,7 @@ fn asked<'a>(
 {
     match name {
         "archive" => archive_of(words),
+        "station" => station_of(words),
         "lines" => lines_of(words),
         "packets" => packets_of(rt, words),
         "list" => list_of(rt, words),
@@ -94,7 +95,6 @@ fn asked_of_files<'a>(name: &str, words: &ArgMatches<'a>) -> Option<Action<'a>>
     ensures { IfSome result IsInBounds }
 {
     match name {
-        "station" => station_of(words),
         "verify" => verify_of(words),
         "feed" => Some(feed_of(words)),
         "mux" => Some(mux_of(words)),
@@ -304,11 +304,19 @@ fn verify_of<'a>(words: &ArgMatches<'a>) -> Option<Action<'a>>
     })
 }
 
-fn station_of<'a>(words: &ArgMatches<'a>) -> Option<Action<'a>>
+fn station_of<'a>(words: &ArgMatches<'a>) -> Result<Action<'a>, &'static str>
+    ensures { IfOk result IsInBounds }
+{
+    let filing = filing_of(words)?;
+    station_filed(words, filing).ok_or(NOTHING)
+}
+
+fn station_filed<'a>(words: &ArgMatches<'a>, filing: Filing) -> Option<Action<'a>>
     ensures { IfSome result IsInBounds }
 {
     Some(Action::Station {
-        file: words.get_str("FILE")?,
+        path: words.get_str("PATH")?,
+        filing,
         address: words.get_str("ADDR")?,
         password_file: words.get_str("password-file"),
         listeners: number_of(words, "listeners", CONNECTIONS)?,

@@ -7,7 +7,7 @@ use Rattle.gate_file.specs.Commit.{CommitsTo}
 use Rattle.gate_file.specs.Gate.{EachImage}
 use Rattle.gate_file.specs.GateFile as G
 use Rattle.gate_file.specs.GateFile.{GateState, gate_state}
-use Rattle.link_chain.specs.ChainState.{ChainState}
+use Rattle.link_chain.specs.ChainState.{ChainState, chain_state_of}
 use Rattle.link_chain.specs.Recording.{Recording, Holds}
 use Rattle.chain_rules.specs.Recording.{add}
 use Rattle.ogg_command.specs.declared.command.Command.{Command}
@@ -43,6 +43,10 @@ committed state recorder = G.committed state recorder.file
 
 abbrev pub staged : {D : Type 0} → (D → DiskState) → RecorderState D → List ℕ
 staged state recorder = G.staged_bytes state recorder.file
+
+-- a recorder that is only read: it knows no streams, and takes no command
+abbrev pub to_read : {D : Type 0} → D → ℕ → RecorderState D
+to_read disk end = recorder_state (gate_state disk end 0 false true) (chain_state_of []) 0 0 0 1
 
 -- What always holds.
 pub record IsRecorder {D : Type 0} (model : DiskModel D) (recorder : RecorderState D) : Type 0 where

@@ -1,5 +1,5 @@
 //! A file is opened: one pass finds the end of its committed bytes and takes their pages into a chain.
-ghost use Rattle.std.specs.Prelude.{◌≡◌, ◌≢◌, ◌↔◌, ◌⊎◌, ◌+◌, ◌-◌, ◌^◌, ◌<◌, ◌≤◌, ℕ, List, Some, None, length, take, IfOk, IfErr};
+ghost use Rattle.std.specs.Prelude.{◌≡◌, ◌≢◌, ◌↔◌, ◌⊎◌, ◌+◌, ◌-◌, ◌^◌, ◌<◌, ◌≤◌, ℕ, List, [], Some, None, length, take, IfOk, IfErr};
 ghost use Rattle.disk_model.specs.Image.{IsImage};
 ghost use Rattle.link_chain.specs.ChainState.{chain_state_of};
 ghost use Rattle.link_chain.specs.Links.{AreLinks};
@@ -25,6 +25,16 @@ pub(crate) struct FoundChain<D: Disk> {
     pub(crate) shape: Shape,
     pub(crate) buffer: PageBuffer,
     pub(crate) small: SmallPage,
+}
+
+/// A chain of no links, and the room for a page and for a small one.
+pub(crate) fn rooms(alloc: Global) -> Result<(Shape, PageBuffer, SmallPage), Memory>
+    ensures none { IfOk result (λ made. made.0.chain ≡ chain_state_of []) }
+    ensures whole { IfOk result (λ made. IsWholeChain made.0.chain) }
+{
+    let buffer = PageBuffer::new(alloc)?;
+    let small = SmallPage::new(alloc)?;
+    Ok((Shape::new(alloc), buffer, small))
 }
 
 /// Finds the committed bytes and the chain of their pages. It writes nothing.

@@ -2,7 +2,7 @@
 ghost use Rattle.std.specs.Prelude.{◌≡◌, ◌≢◌, ◌↔◌, ◌⊎◌, ◌+◌, ◌-◌, ◌^◌, ◌<◌, ◌≤◌, true, false, Bool, ℕ, List, length, take, drop, OnOk, IfOk, IfErr, ◌++◌, ⊤};
 ghost use Rattle.disk_model.specs.Image.{IsSettled};
 ghost use Rattle.disk_model.specs.Leaving.{LeavesOnly};
-ghost use Rattle.disk_model.specs.Fault.{HasCause};
+ghost use Rattle.disk_model.specs.Fault.{HasCause, Rises};
 ghost use Rattle.disk_model.specs.Frame.{Frame};
 ghost use Rattle.link_chain.specs.Recording.{Recording};
 ghost use Rattle.link_chain.specs.declared.chain_fault.ChainFault.{ChainFault as ChainFaultOf};
@@ -19,7 +19,7 @@ ghost use Rattle.file_recorder.specs.Recovery.{Commits, Shows};
 ghost use Rattle.file_recorder.specs.Taking.{HoldsChain, IsBrokenAt, IsUnfinished};
 ghost use Rattle.file_recorder.specs.Recorder.{RecorderState, IsRecorder, IsIn, recorder_state, over_disk, committed, staged, IsRecorderStep};
 
-use crate::opening::{FoundChain, find_chain};
+use crate::opening::{FoundChain, find_chain, rooms};
 use crate::staging::SmallPage;
 use chain_rules::{Plan, Serials, Shape, StreamState};
 use disk_model::{Disk, DiskFault};
@@ -58,7 +58,7 @@ impl<D: Disk> Model for Recorder<D> {
 }
 
 impl<D: Disk> Recorder<D> {
-    ghost use Rattle.file_recorder.specs.Recorder.{RecorderState, recorder_state, committed};
+    ghost use Rattle.file_recorder.specs.Recorder.{RecorderState, recorder_state, committed, to_read};
 
     /// Opens a file that a stop may have left. It syncs, finds the committed bytes and takes their pages into a
     /// chain, all in one pass and in the memory of one page and of the chain. If no closed byte follows the committed
@@ -122,6 +122,33 @@ impl<D: Disk> Recorder<D> {
                 most: 1,
             }),
             Err(fault) => Err(fault),
+        }
+    }
+
+    /// A recorder that is only read: the first `end` bytes of the disk are committed, and like one that has failed it
+    /// takes no command. It knows no streams. The faults are `Memory` and `Disk`, which says too that the disk is shorter.
+    pub fn to_read(alloc: Global, disk: D, end: u64) -> Result<Recorder<D>, (OpenFault, D)>
+        ensures reads { IfOk result (λ r. (r ≡ to_read r.file.disk end) × OnlyReads D.Disk disk r.file.disk) }
+        ensures back { IfErr result (λ e. OnlyReads D.Disk disk e.1) }
+        ensures cause { IfErr result (λ e. (e.0 ≡ OpenFault.Memory) ⊎ ((e.0 ≡ OpenFault.Disk) × (D.is_honest disk
+            → Rises (D.failures disk) (D.failures e.1) ⊎ (length (D.state disk).contents < end)))) }
+    {
+        let Ok((shape, buffer, small)) = rooms(alloc) else {
+            return Err((OpenFault::Memory, disk));
+        };
+        match GateFile::to_read(disk, end) {
+            Ok(file) => Ok(Recorder {
+                file,
+                shape,
+                plan: Plan::new(),
+                buffer,
+                small,
+                tail: 0,
+                kept: 0,
+                held: 0,
+                most: 1,
+            }),
+            Err(disk) => Err((OpenFault::Disk, disk)),
         }
     }
 

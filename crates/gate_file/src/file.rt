@@ -2,7 +2,7 @@
 ghost use Rattle.std.specs.Prelude.{◌≡◌, ◌≢◌, ◌↔◌, ◌⊎◌, ◌+◌, ◌-◌, ◌^◌, ◌<◌, ◌≤◌, ◌++◌, [], ℕ, length, take, drop, true, false, OnOk, OnErr, IfOk, IfErr, IsErr, ⊤};
 ghost use Rattle.disk_model.specs.Image.{IsSettled};
 ghost use Rattle.disk_model.specs.Leaving.{LeavesOnly};
-ghost use Rattle.disk_model.specs.Fault.{HasCause};
+ghost use Rattle.disk_model.specs.Fault.{HasCause, Rises};
 ghost use Rattle.disk_model.specs.Frame.{Frame};
 ghost use Rattle.gate_file.specs.Commit.{ArePages, CommitsTo, CommitsToEither};
 ghost use Rattle.gate_file.specs.Gate.{IsAppend, IsReadyAt, EachImage, pages_in};
@@ -14,6 +14,20 @@ use crate::sealing::{commit_cut, cut_behind};
 use crate::staging::{stage_last_pages, stage_pages};
 use disk_model::{Disk, DiskFault};
 use std::marker::Model;
+
+/// Whether the disk has this many bytes.
+fn has_bytes<D: Disk>(disk: &mut D, count: u64) -> bool
+    ensures short { result ≡ true → count < 2 ^ 63 }
+    ensures yes { result ≡ true → D.is_honest disk.old → count ≤ length (D.state disk.old).contents }
+    ensures no { result ≡ false → D.is_honest disk.old
+        → Rises (D.failures disk.old) (D.failures disk.new) ⊎ (length (D.state disk.old).contents < count) }
+    ensures reads { OnlyReads D.Disk disk.old disk.new }
+{
+    match disk.len() {
+        Ok(length) => count <= length,
+        Err(DiskFault) => false,
+    }
+}
 
 /// A file whose committed bytes grow by whole appends, and by whole groups of pages that are staged and then
 /// committed. It owns its disk. Once a write or a sync has failed, the file has failed: it can still be read and
@@ -53,6 +67,27 @@ impl<D: Disk> GateFile<D> {
             whole: false,
             failed: false,
         }
+    }
+
+    /// A file that is only read: the first `end` bytes of the disk are committed, and like one that has failed it takes
+    /// no pages. The disk is given back if it is shorter, or has failed.
+    pub fn to_read(disk: D, end: u64) -> Result<GateFile<D>, D>
+        ensures reads { IfOk result (λ file. (file ≡ gate_state file.disk end 0 false true) × OnlyReads D.Disk disk file.disk) }
+        ensures back { IfErr result (λ back. OnlyReads D.Disk disk back) }
+        ensures cause { IfErr result (λ back. D.is_honest disk
+            → Rises (D.failures disk) (D.failures back) ⊎ (length (D.state disk).contents < end)) }
+    {
+        let mut disk = disk;
+        if !has_bytes(&mut disk, end) {
+            return Err(disk);
+        }
+        Ok(GateFile {
+            disk,
+            end,
+            staged: 0,
+            whole: false,
+            failed: true,
+        })
     }
 
     /// The length of the committed bytes.

@@ -1,3 +1,4 @@
+pub mod ReadBy
 pub mod Heard
 pub mod Imaged
 pub mod Lasting

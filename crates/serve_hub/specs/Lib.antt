@@ -1,3 +1,4 @@
+pub mod Exchanging
 pub mod Images
 pub mod Listening
 pub mod Parts

@@ -16,6 +16,7 @@
 #![tactic(auto)]
 
 mod commanding;
+mod exchanging;
 mod hub;
 mod laws;
 mod listening;

@@ -1,3 +1,4 @@
+pub mod Changing
 pub mod Offering
 pub mod Parting
 pub mod Succeeding

@@ -13,6 +13,7 @@
 //! `src/stepping.rt`, which says what is recorded and when it is committed. `station_laws` says what calls add up to.
 #![tactic(auto)]
 
+mod changing;
 mod offering;
 mod sparing;
 mod station;
@@ -21,7 +22,7 @@ mod telling;
 mod turning;
 
 pub use import_record::{Answered, Step, Taken};
-pub use serve_clients::{After, Trouble};
+pub use serve_clients::{After, Client, Trouble};
 pub use serve_sources::{FULL, Password};
 pub use serve_texts::Visit;
 pub use station::{Options, Station, Unaccepted};

@@ -61,7 +61,7 @@ pub enum Unaccepted {
 }
 
 /// The spare place of this connection is free, if it had one.
-fn leave(spare: &mut Vec<usize>, key: usize)
+pub(crate) fn leave(spare: &mut Vec<usize>, key: usize)
     ensures { spare.new.items ≡ filter (is_another key) spare.old.items }
 {
     spare.retain(|other| *other != key);
@@ -121,7 +121,12 @@ impl<D: Disk + Drop> Station<D> {
     }
 
     /// Nobody has the air, and nothing was done yet.
-    fn begun(alloc: Global, live: LiveHub<D>, clients: Clients, options: Options) -> Station<D>
+    pub(crate) fn begun(
+        alloc: Global,
+        live: LiveHub<D>,
+        clients: Clients,
+        options: Options,
+    ) -> Station<D>
         ensures live { result.live ≡ live }
         ensures clients { result.clients ≡ clients }
         ensures begun { IsIdle options result }

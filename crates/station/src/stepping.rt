@@ -400,7 +400,7 @@ impl<D: Disk + Drop> Station<D> {
 
     /// What is on the air goes on in the file that was opened again. What waited may be lost. If nobody is on the air, what
     /// is open is nobody's, and is ended.
-    fn resume(&mut self, now: u64) -> Done
+    pub fn resume(&mut self, now: u64) -> Done
         ensures at_rest { RestsBy result self.new.live.hub.file }
         ensures frees { FreesBy result self.old.air self.new.live.hub.file }
         ensures noted { (air : OnAirOf) (answered : AnsweredOf) → self.old.air ≡ Some air → result ≡ Done.Reopened answered

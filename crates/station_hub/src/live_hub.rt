@@ -1,12 +1,16 @@
 //! A hub, and where listeners may join what it records.
-ghost use Rattle.std.specs.Prelude.{◌≡◌, ◌++◌, ⊤, ℕ, Bool, true, false, List, [], None, IfOk, OnOk, OnErr, Result, length};
+ghost use Rattle.std.specs.Prelude.{◌≡◌, ◌++◌, ⊤, ℕ, Bool, true, false, List, [], None, Some, IfErr, IfOk, OnOk, OnErr, Result, length};
 ghost use Rattle.std.specs.Io.KnownBytes.{Appends};
 ghost use Rattle.ogg_page.specs.Output.{WritesPart};
 ghost use Rattle.feed_records.specs.declared.item.Record.{Record as RecordOf};
 ghost use Rattle.chain_rules.specs.Decision.{is_begin};
 ghost use Rattle.feed_replies.specs.declared.reply.Reply.{Reply as ReplyOf};
 ghost use Rattle.feed_replies.specs.declared.reply.Reply.TheVariants.{Held as HeldOf};
-ghost use Rattle.serve_hub.specs.Parts.{OnlySessions, is_at_rest};
+ghost use Rattle.file_recorder.specs.Recorder.{committed};
+ghost use Rattle.gate_file.specs.Commit.{CommitsTo};
+ghost use Rattle.gate_file.specs.Gate.{EachImage};
+ghost use Rattle.serve_hub.specs.Exchanging.{only_read};
+ghost use Rattle.serve_hub.specs.Parts.{OnlySessions, hub_parts, is_at_rest, is_settled};
 ghost use Rattle.serve_hub.specs.Showing.{Shows};
 ghost use Rattle.serve_live.specs.Boundaries.{no_link, place_to_join};
 ghost use Rattle.serve_machine.specs.Calls.{Steps, found_by};
@@ -24,6 +28,7 @@ use crate::places::{Answered, Places};
 use disk_model::Disk;
 use feed_replies::Reply;
 use feed_runner::Runner;
+use file_recorder::Recorder;
 use gate_file::OpenFault;
 use link_chain::{StreamState, is_open};
 use ogg_command::{Command, Refusal, command_is_in_range};
@@ -106,6 +111,22 @@ impl<D: Disk + Drop> LiveHub<D> {
             }
             Err(fault) => Err(fault),
         }
+    }
+
+    /// From now on the file is read by this recorder, as [`Hub::read_by`] has it.
+    pub fn read_by(&mut self, recorder: Recorder<D>) -> Result<Recorder<D>, D>
+        ensures before { IfOk result (λ before. self.old.hub.file ≡ Some before) }
+        ensures lost { IfErr result (λ disk. self.old.hub.file ≡ None) }
+        ensures places { self.new.places ≡ self.old.places }
+        ensures rest { self.new.hub ≡ hub_parts (Some recorder) self.new.hub.lost self.old.hub.index self.old.hub.sessions
+            self.old.hub.next self.old.hub.most self.old.hub.room }
+        ensures shown { (machine : HubState) → Shows D.Disk self.old.hub machine → is_settled self.old.hub.file ≡ true
+            → recorder.file.failed ≡ true → D.is_honest recorder.file.disk
+            → committed D.state recorder ≡ machine.committed
+            → EachImage (D.state recorder.file.disk) (CommitsTo machine.committed)
+            → Shows D.Disk self.new.hub (only_read recorder machine) }
+    {
+        self.hub.read_by(recorder)
     }
 
     /// Ends each stream that the file's last link has open, and commits that. It stops at the first end that is refused.

@@ -1,12 +1,14 @@
 //! A station that runs: round after round bytes go between its sockets and the machine, which decides everything.
 
+use crate::filing::Recorded;
 use crate::sockets::{Connection, Sockets, trouble};
 use crate::telling::{seconds, tell_done};
+use disk_model::Disk;
 use fault_lines::Fault;
 use import_record::RecordFault;
-use record_actions::Told;
-use serve_actions::{HeardDisk, Log};
-use station::{After, Done, FULL, Feeder, Station, Trouble, station_line};
+use serve_actions::Log;
+use station::{After, Done, FULL, Feeder, Trouble, station_line};
+use station_files::{Seat, Stations};
 use std::io::{self, Read, Write};
 use std::net::{Shutdown, SocketAddr};
 use std::time::Instant;
@@ -16,24 +18,25 @@ const IN_ROUND: u32 = 64;
 
 /// A station that runs.
 #[derive(Drop)]
-pub struct Running<'a> {
+pub struct Running<'a, D: Disk + Drop, R: Recorded<'a, D> + Drop> {
     pub rt: &'a HostRuntime,
-    pub station: &'a mut Station<HeardDisk>,
+    pub stations: Stations<D>,
+    /// What it is recorded into.
+    pub recorded: R,
     pub sockets: Sockets,
-    pub told: Told<'a>,
     pub log: Log,
     pub start: Instant,
     // when its round began, in milliseconds since its start
     pub now: u64,
 }
 
-impl Running<'_> {
+impl<'a, D: Disk + Drop, R: Recorded<'a, D> + Drop> Running<'a, D, R> {
     /// Runs until a fault, or until the station has come to its end. A fault that was told is the last to be returned.
     pub fn run_to_end(&mut self) -> Result<(), Fault> {
         let ran = self.run();
-        self.told.close();
+        self.recorded.told().close();
         ran?;
-        match self.told.fault() {
+        match self.recorded.told().fault() {
             Some(fault) => Err(fault),
             None => Ok(()),
         }
@@ -47,7 +50,7 @@ impl Running<'_> {
                 return Err(Fault::Net);
             }
             busy = self.round()?;
-            if self.station.is_finished(self.now) {
+            if self.stations.is_finished(self.now) {
                 break;
             }
         }
@@ -60,9 +63,9 @@ impl Running<'_> {
             0
         } else {
             let now = self.microseconds()? / 1000;
-            self.station.until_next(now)
+            self.stations.until_next(now)
         };
-        self.sockets.wait(self.station, most)?;
+        self.sockets.wait(&mut self.stations, most)?;
         self.now = self.microseconds()? / 1000;
         Ok(())
     }
@@ -84,7 +87,7 @@ impl Running<'_> {
     }
 }
 
-impl Running<'_> {
+impl<'a, D: Disk + Drop, R: Recorded<'a, D> + Drop> Running<'a, D, R> {
     /// Accepts connections that wait. It returns whether there may be more of them.
     fn accept(&mut self) -> bool {
         for _ in 0..IN_ROUND {
@@ -98,61 +101,96 @@ impl Running<'_> {
 
     /// A connection was accepted. If there are too many it is told so, and closed.
     fn add(&mut self, connection: Connection) {
-        let Ok(key) = self.station.accepted(self.now) else {
+        let Ok(key) = self.stations.newest_mut().accepted(self.now) else {
             let _ = (&connection.stream).write(FULL);
             let _ = connection.stream.shutdown(Shutdown::Write);
             self.log.refused(connection.address, seconds(self.rt));
             return;
         };
-        if self.sockets.keep(key, connection).is_ok() {
-            self.station.wake(key, true, true);
+        let seat = Seat { station: 0, key };
+        if self.sockets.keep(seat, connection).is_ok() {
+            self.stations.wake(seat, true, true);
         } else {
-            let _ = self.station.closed(key);
+            let _ = self.stations.newest_mut().closed(key);
         }
     }
 
     /// Gives each connection that has something to do one turn.
     fn serve(&mut self) {
-        for _ in 0..self.station.turns() {
-            let Some(key) = self.station.next_turn() else {
+        for _ in 0..self.stations.turns() {
+            let Some(seat) = self.stations.next_turn() else {
                 return;
             };
-            self.turn(key);
+            self.turn(seat);
         }
     }
 
-    /// A turn of a connection: one read, and one write.
-    fn turn(&mut self, key: usize) {
-        let Some(connection) = self.sockets.connections.get(&key) else {
+    /// A turn of a connection: one read, and one write. Who has heard all of a file that has ended goes on to the next.
+    fn turn(&mut self, seat: Seat) {
+        let Some(after) = self.move_bytes(seat) else {
             return;
         };
-        let buffer = self.sockets.buffer.as_mut_slice();
-        if self.station.reads(key) {
-            connection.read(self.station, key, buffer, self.now);
-        }
-        if self.station.writes(key) {
-            connection.write(self.station, key, buffer, self.now);
-        }
-        match self.station.turned(key, self.now) {
+        match after {
             After::Goes => {}
-            After::Shuts => {
-                let _ = connection.stream.shutdown(Shutdown::Write);
-            }
-            After::Closes => {
-                if let Some(visit) = self.station.closed(key) {
-                    self.log
-                        .visited(connection.address, &visit, seconds(self.rt));
+            After::Shuts => self.sockets.shut(seat),
+            After::Closes => self.close(seat),
+        }
+        self.stations.move_on(seat);
+        self.take_moves();
+    }
+
+    /// Reads and writes once, and says what becomes of the connection.
+    fn move_bytes(&mut self, seat: Seat) -> Option<After> {
+        let connection = self.sockets.connections.get(&seat.token())?;
+        let station = self.stations.at(seat)?;
+        let buffer = self.sockets.buffer.as_mut_slice();
+        if station.reads(seat.key) {
+            connection.read(station, seat.key, buffer, self.now);
+        }
+        if station.writes(seat.key) {
+            connection.write(station, seat.key, buffer, self.now);
+        }
+        Some(station.turned(seat.key, self.now))
+    }
+
+    /// The connection is closed, and told in the log.
+    fn close(&mut self, seat: Seat) {
+        let Some(connection) = self.sockets.connections.remove(&seat.token()) else {
+            return;
+        };
+        let Some(station) = self.stations.at(seat) else {
+            return;
+        };
+        if let Some(visit) = station.closed(seat.key) {
+            self.log
+                .visited(connection.address, &visit, seconds(self.rt));
+        }
+    }
+
+    /// Connections have got other seats: the system tells of them by these from now on.
+    fn take_moves(&mut self) {
+        if self.stations.moves().is_empty() {
+            return;
+        }
+        for at in 0..self.stations.moves().len() {
+            let Some(moved) = self.stations.moves().get(at) else {
+                return;
+            };
+            let moved = *moved;
+            if let Some(seat) = self.sockets.moved(moved) {
+                if let Some(station) = self.stations.at(seat) {
+                    let _ = station.closed(seat.key);
                 }
-                self.sockets.connections.remove(&key);
             }
         }
+        self.stations.took_moves();
     }
 }
 
-impl Running<'_> {
+impl<'a, D: Disk + Drop, R: Recorded<'a, D> + Drop> Running<'a, D, R> {
     /// Whether standard input is to be read now.
     fn has_input(&self) -> bool {
-        self.sockets.has_input && self.station.wants_input()
+        self.sockets.has_input && self.stations.newest().wants_input()
     }
 
     /// Reads standard input once, if that is to be done. After a fault the input has ended.
@@ -166,9 +204,9 @@ impl Running<'_> {
             return;
         }
         self.sockets.has_input = false;
-        self.station.input_ended(self.now);
+        self.stations.newest_mut().input_ended(self.now);
         if let Err(fault) = read {
-            self.told.given_up(fault);
+            self.recorded.told().given_up(fault);
         }
     }
 
@@ -177,7 +215,7 @@ impl Running<'_> {
         let buffer = self.sockets.buffer.as_mut_slice();
         match self.rt.stdin().read(buffer) {
             Ok(0) => Ok(false),
-            Ok(count) => match self.station.input(&buffer[..count], self.now) {
+            Ok(count) => match self.stations.newest_mut().input(&buffer[..count], self.now) {
                 Ok(()) => Ok(true),
                 Err(_) => Err(RecordFault::Memory),
             },
@@ -189,11 +227,20 @@ impl Running<'_> {
     /// Takes steps of what is recorded, and tells them. It returns whether there may be more of them now.
     fn record(&mut self) -> Result<bool, Fault> {
         for _ in 0..IN_ROUND {
+            self.recorded.before(&mut self.stations, self.now)?;
+            self.take_moves();
             let done = self.step();
             if let Done::Nothing = done {
                 return Ok(false);
             }
-            tell_done(&mut self.told, &mut self.log, &done, self.station)?;
+            let done = self.recorded.after(done, &mut self.stations, self.now)?;
+            tell_done(
+                self.recorded.told(),
+                &mut self.log,
+                &done,
+                self.stations.newest(),
+            )?;
+            self.take_moves();
         }
         Ok(true)
     }
@@ -201,31 +248,37 @@ impl Running<'_> {
     /// Takes a step of what is recorded. The time is counted that it takes to commit.
     fn step(&mut self) -> Done {
         let source = self.source();
-        self.log.source(self.station.counts(), source);
-        let commits = self.station.counts().commits;
+        self.log.source(self.stations.newest().counts(), source);
+        let commits = self.stations.newest().counts().commits;
         let begun = self.microseconds().unwrap_or(0);
-        let done = self.station.step(self.now);
-        if self.station.counts().commits != commits {
+        let done = self.stations.newest_mut().step(self.now);
+        if self.stations.newest().counts().commits != commits {
             let ended = self.microseconds().unwrap_or(0);
-            self.station.spent(ended.saturating_sub(begun));
+            self.stations
+                .newest_mut()
+                .spent(ended.saturating_sub(begun));
         }
         done
     }
 
     /// The address of the source, if it is a connection.
     fn source(&self) -> Option<SocketAddr> {
-        match self.station.feeder() {
-            Some(Feeder::Peer(key)) => Some(self.sockets.connections.get(&key)?.address),
+        match self.stations.newest().feeder() {
+            Some(Feeder::Peer(key)) => {
+                let seat = Seat { station: 0, key };
+                Some(self.sockets.connections.get(&seat.token())?.address)
+            }
             _ => None,
         }
     }
 
     /// Tells how it goes: what is in the log, and once a second the line at a terminal.
     fn tell(&mut self) {
-        self.log.tell(&mut self.told);
-        if self.station.look(self.now) {
-            let line = station_line(self.station.shown());
-            self.told.show_other(line.as_slice());
+        self.log.tell(self.recorded.told());
+        if self.stations.look(self.now) {
+            let line = station_line(self.stations.newest().shown());
+            self.recorded.told().show_other(line.as_slice());
+            self.stations.close_unread();
         }
     }
 }

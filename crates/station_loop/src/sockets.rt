@@ -1,16 +1,17 @@
 //! The sockets of a station, and standard input: the system tells when they have something.
 
+use disk_model::Disk;
 use mio::net::{TcpListener, TcpStream};
 use mio::unix::SourceFd;
 use mio::{Events, Interest, Poll, Token};
-use serve_actions::HeardDisk;
 use station::{Station, Trouble};
+use station_files::{Move, Seat, Stations};
 use std::collections::HashMap;
 use std::io::{self, ErrorKind, IsTerminal, Read, Write};
-use std::net::SocketAddr;
+use std::net::{Shutdown, SocketAddr};
 use std::time::Duration;
 
-/// The tokens of the listener and of standard input. A connection's is its key, which is less.
+/// The tokens of the listener and of standard input. A connection's is its seat's, which is less.
 const LISTENER: usize = usize::MAX;
 
 const INPUT: usize = usize::MAX - 1;
@@ -21,7 +22,7 @@ const PIECE: usize = 65_536;
 /// How many events are taken from the system at once.
 const EVENTS: usize = 1024;
 
-/// The sockets of a station: its connections by their keys.
+/// The sockets of a station: its connections by the tokens of their seats.
 #[derive(Drop)]
 pub struct Sockets {
     poll: Poll,
@@ -59,7 +60,11 @@ impl Sockets {
 
     /// Waits at most this many milliseconds until the system tells that something can be done, and wakes the
     /// connections of which it tells that.
-    pub fn wait(&mut self, station: &mut Station<HeardDisk>, most: u64) -> io::Result<()> {
+    pub fn wait<D: Disk + Drop>(
+        &mut self,
+        stations: &mut Stations<D>,
+        most: u64,
+    ) -> io::Result<()> {
         let most = Some(Duration::from_millis(most));
         match self.poll.poll(&mut self.events, most) {
             Err(error) if error.kind() != ErrorKind::Interrupted => return Err(error),
@@ -69,7 +74,10 @@ impl Sockets {
             match event.token() {
                 Token(LISTENER) => self.accepting = true,
                 Token(INPUT) => self.has_input = true,
-                Token(key) => station.wake(key, event.is_readable(), event.is_writable()),
+                Token(token) => {
+                    let seat = Seat::of_token(token);
+                    stations.wake(seat, event.is_readable(), event.is_writable());
+                }
             }
         }
         Ok(())
@@ -107,12 +115,39 @@ impl Sockets {
     }
 
     /// Keeps a connection, and has the system tell of it.
-    pub fn keep(&mut self, key: usize, mut connection: Connection) -> io::Result<()> {
+    pub fn keep(&mut self, seat: Seat, mut connection: Connection) -> io::Result<()> {
         let both = Interest::READABLE | Interest::WRITABLE;
         let registry = self.poll.registry();
-        registry.register(&mut connection.stream, Token(key), both)?;
-        self.connections.insert(key, connection)?;
+        registry.register(&mut connection.stream, Token(seat.token()), both)?;
+        self.connections.insert(seat.token(), connection)?;
         Ok(())
+    }
+
+    /// A connection has got another seat: the system tells of it by that from now on. If it can't, or if there is no other
+    /// seat, the connection is closed, and the seat is returned that is to be free again.
+    pub fn moved(&mut self, moved: Move) -> Option<Seat> {
+        let mut connection = self.connections.remove(&moved.from.token())?;
+        let seat = moved.to?;
+        let both = Interest::READABLE | Interest::WRITABLE;
+        let registry = self.poll.registry();
+        let token = Token(seat.token());
+        if registry
+            .reregister(&mut connection.stream, token, both)
+            .is_err()
+        {
+            return Some(seat);
+        }
+        match self.connections.insert(seat.token(), connection) {
+            Ok(_) => None,
+            Err(_) => Some(seat),
+        }
+    }
+
+    /// The peer is told that no further byte comes.
+    pub fn shut(&mut self, seat: Seat) {
+        if let Some(connection) = self.connections.get(&seat.token()) {
+            let _ = connection.stream.shutdown(Shutdown::Write);
+        }
     }
 }
 
@@ -125,7 +160,13 @@ pub struct Connection {
 
 impl Connection {
     /// Reads once.
-    pub fn read(&self, station: &mut Station<HeardDisk>, key: usize, buffer: &mut [u8], now: u64) {
+    pub fn read<D: Disk + Drop>(
+        &self,
+        station: &mut Station<D>,
+        key: usize,
+        buffer: &mut [u8],
+        now: u64,
+    ) {
         match (&self.stream).read(buffer) {
             Ok(0) => station.peer_ended(key),
             Ok(count) => station.received(key, &buffer[..count], now),
@@ -134,7 +175,13 @@ impl Connection {
     }
 
     /// Writes once, if there is something to send.
-    pub fn write(&self, station: &mut Station<HeardDisk>, key: usize, buffer: &mut [u8], now: u64) {
+    pub fn write<D: Disk + Drop>(
+        &self,
+        station: &mut Station<D>,
+        key: usize,
+        buffer: &mut [u8],
+        now: u64,
+    ) {
         let count = station.next(key, buffer, now);
         if count == 0 {
             return;

@@ -1,17 +1,18 @@
 //! What a station has done, told.
 
+use disk_model::Disk;
 use fault_lines::Fault;
 use record_actions::Told;
-use serve_actions::{HeardDisk, Log};
+use serve_actions::Log;
 use station::{Done, Station};
 use std::time::{SystemTime, UNIX_EPOCH};
 
 /// The station has done this, and it is told. It is a fault if the file is lost.
-pub fn tell_done(
+pub fn tell_done<D: Disk + Drop>(
     told: &mut Told<'_>,
     log: &mut Log,
     done: &Done,
-    station: &Station<HeardDisk>,
+    station: &Station<D>,
 ) -> Result<(), Fault> {
     let hub = station.hub();
     match done {

@@ -1,3 +1,4 @@
+pub mod Pending
 pub mod Counting
 pub mod Air
 pub mod Faring

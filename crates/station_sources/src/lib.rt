@@ -19,6 +19,7 @@ mod counting;
 mod faring;
 mod laws;
 mod lines;
+mod pending;
 
 pub use air::{Feeder, OnAir, Took};
 pub use counting::{Counts, MendCounts, counted};

@@ -1,0 +1,243 @@
+//! A station goes over to another file: who reads the one before leaves for a station that serves it to its end.
+ghost use Rattle.std.specs.Prelude.{◌≡◌, ◌≢◌, ◌↔◌, ◌⊎◌, [], ℕ, None, Some, false, true, IfErr, IfOk, OnErr};
+ghost use Rattle.slab.specs.Slab.{get};
+ghost use Rattle.gate_file.specs.Commit.{CommitsTo};
+ghost use Rattle.gate_file.specs.Gate.{EachImage};
+ghost use Rattle.file_recorder.specs.Recorder.{committed};
+ghost use Rattle.serve_machine.specs.Hub.{HubState};
+ghost use Rattle.serve_hub.specs.Exchanging.{only_read};
+ghost use Rattle.serve_hub.specs.Parts.{is_settled};
+ghost use Rattle.serve_hub.specs.Showing.{Shows};
+ghost use Rattle.serve_clients.specs.Client.{ClientState};
+ghost use Rattle.serve_clients.specs.Clients.{HasTurn, OthersStay};
+ghost use Rattle.serve_clients.specs.declared.clients.Clients.{Clients as ClientsOf};
+ghost use Rattle.serve_clients.specs.Line.{new_line};
+ghost use Rattle.station.specs.Changing.{HasHeardAll, HearsAnew, ReadsFile, arrived, come};
+ghost use Rattle.station_hub.specs.Waking.{with_more};
+ghost use Rattle.serve_live.specs.Boundaries.{place_to_join};
+ghost use Rattle.station_hub.specs.Live.{RecordsLive};
+ghost use Rattle.station_sources.specs.Pending.{HasCome};
+ghost use Rattle.station_sources.specs.declared.air.OnAir.{OnAir as OnAirOf};
+
+use crate::Memory;
+use crate::station::{Options, Station, leave};
+use disk_model::Disk;
+use feed_runner::Runner;
+use file_recorder::Recorder;
+use import_changes::Skeletons;
+use import_record::{Answered, RecordFault, run_all};
+use serve_clients::{Client, Clients, Line, Stage};
+use serve_live::{JoinPlace, Listener};
+use slab::Slab;
+use station_hub::LiveHub;
+use std::alloc::Global;
+use std::io;
+
+/// A connection that comes from another station: nothing is known of its socket, and nothing was asked for it yet.
+fn arrive(client: &mut Client)
+    ensures { client.new ≡ record client.old { idle = false; line = new_line } }
+{
+    client.idle = false;
+    client.stands(Line::new());
+}
+
+/// Gives a connection a key that is free.
+fn insert(slots: &mut Slab<Client>, client: Client) -> Result<usize, Memory>
+    ensures none { IfOk result (λ key. get slots.old key ≡ None) }
+    ensures some { IfOk result (λ key. get slots.new key ≡ Some client) }
+    ensures others { IfOk result (λ key. (other : ℕ) → other ≢ key → get slots.new other ≡ get slots.old other) }
+    ensures err { OnErr result ((key : ℕ) → get slots.new key ≡ get slots.old key) }
+{
+    match slots.insert(client) {
+        Ok(key) => Ok(key),
+        Err(_) => Err(Memory),
+    }
+}
+
+/// A connection hears what this listener does.
+fn hear_by(client: &mut Client, listener: Listener)
+    ensures { client.new ≡ record client.old { listener = Some listener } }
+{
+    client.listener = Some(listener);
+}
+
+impl<D: Disk + Drop> Station<D> {
+    /// A station that serves a file to those who enter it, and takes no source and no further connection. It makes the room
+    /// for this many. After `Memory` the hub is given back.
+    pub fn over(
+        alloc: Global,
+        live: LiveHub<D>,
+        most: usize,
+    ) -> Result<Station<D>, (Memory, LiveHub<D>)>
+        ensures live { IfOk result (λ station. station.live ≡ live) }
+        ensures nobody { IfOk result (λ station. (station.air ≡ None) × ((key : ℕ) → get station.clients.slots key ≡ None)) }
+        ensures back { IfErr result (λ e. e.1 ≡ live) }
+    {
+        let options = Options {
+            most,
+            skeletons: Skeletons::Kept,
+            password: None,
+            ends_with_input: false,
+            log: false,
+        };
+        match Clients::new(alloc, most) {
+            Ok(clients) => Ok(Station::begun(alloc, live, clients, options)),
+            Err(memory) => Err((memory, live)),
+        }
+    }
+
+    /// Every connection has a key that is less.
+    pub fn keys(&self) -> usize {
+        self.clients.slots.capacity()
+    }
+
+    /// From now on the file is read by this recorder, as [`LiveHub::read_by`] has it: nothing more is recorded into it.
+    pub fn read_by(&mut self, recorder: Recorder<D>) -> Result<Recorder<D>, D>
+        ensures before { IfOk result (λ before. self.old.live.hub.file ≡ Some before) }
+        ensures lost { IfErr result (λ disk. self.old.live.hub.file ≡ None) }
+        ensures rest { self.new ≡ record self.old { live = self.new.live } }
+        ensures shown { (machine : HubState) → Shows D.Disk self.old.live.hub machine → is_settled self.old.live.hub.file ≡ true
+            → recorder.file.failed ≡ true → D.is_honest recorder.file.disk
+            → committed D.state recorder ≡ machine.committed
+            → EachImage (D.state recorder.file.disk) (CommitsTo machine.committed)
+            → Shows D.Disk self.new.live.hub (only_read recorder machine) }
+    {
+        self.live.read_by(recorder)
+    }
+
+    /// Another file is recorded and served from now on. The hub of the one before is returned. Let who reads it leave first.
+    pub fn change(&mut self, live: LiveHub<D>) -> LiveHub<D>
+        ensures before { result ≡ self.old.live }
+        ensures now { self.new.live ≡ live }
+        ensures clients { self.new.clients ≡ self.old.clients }
+        ensures air { self.new.air ≡ self.old.air }
+        ensures anew { self.new.reopened ≡ None }
+        ensures woken { self.new.waking ≡ with_more self.old.waking }
+        ensures rest { self.new ≡ record self.old { live = live; reopened = None; waking = self.new.waking } }
+    {
+        let before = std::mem::replace(&mut self.live, live);
+        self.reopened = None;
+        self.waking = self.waking.with_more();
+        before
+    }
+
+    /// Where the link that is open in the file is joined, if its beginning is known.
+    pub fn place(&self) -> Option<JoinPlace>
+        ensures { result ≡ place_to_join self.now.live.places.boundaries }
+    {
+        self.live.place()
+    }
+
+    /// Since when the station comes to its end, if it does.
+    pub fn ending(&self) -> Option<u64>
+        ensures { result ≡ self.now.ending }
+    {
+        self.ending
+    }
+
+    /// Whether something has come of the source that isn't recorded yet.
+    pub fn has_come(&self) -> bool
+        ensures none { self.now.air ≡ None → result ≡ false }
+        ensures some { (air : OnAirOf) → self.now.air ≡ Some air → (result ≡ true) ↔ HasCome air }
+    {
+        match &self.air {
+            Some(air) => air.has_come(),
+            None => false,
+        }
+    }
+
+    /// After the file was changed: the link that the source has open begins again in it, under serials that are none of
+    /// these, and that is kept with what waits. It returns what was answered. If something of the source is lost, that is
+    /// noted. After a fault not all of the link may be begun.
+    pub fn begin_again(&mut self, serials: &[u32], is_lost: bool) -> Result<Answered, RecordFault>
+        ensures clients { self.new.clients ≡ self.old.clients }
+        ensures records { RecordsLive D.Disk self.old.live self.new.live }
+        ensures none { self.old.air ≡ None → self.new.air ≡ None }
+        ensures faults { IfErr result (λ fault. (fault ≡ RecordFault.Memory) ⊎ (fault ≡ RecordFault.Write)) }
+    {
+        let Some(air) = &mut self.air else {
+            return Ok(Answered::nothing());
+        };
+        if is_lost {
+            air.lose();
+        }
+        let ran = match air.resume(&[], serials) {
+            Ok(commands) => run_all(&mut self.live, commands.as_slice(), &mut io::sink()),
+            Err(_) => return Err(RecordFault::Memory),
+        };
+        self.live.run_flush();
+        match ran {
+            Ok(answered) => Ok(answered),
+            Err(_) => Err(RecordFault::Write),
+        }
+    }
+
+    /// Whether this connection reads the file: it has a session, or hears what is recorded.
+    pub fn reads_file(&self, key: usize) -> bool
+        ensures { (result ≡ true) ↔ ReadsFile (get self.now.clients.slots key) }
+    {
+        match self.clients.slots.get(key) {
+            Some(client) => match client.stage {
+                Stage::Reading | Stage::Sending | Stage::Hearing => true,
+                _ => false,
+            },
+            None => false,
+        }
+    }
+
+    /// Whether this connection hears what is recorded, and was given all of it when it was last asked.
+    pub fn has_heard_all(&self, key: usize) -> bool
+        ensures { (result ≡ true) ↔ HasHeardAll (get self.now.clients.slots key) }
+    {
+        match self.clients.slots.get(key) {
+            Some(client) => {
+                client.stage == Stage::Hearing && client.idle && client.unsent().is_empty()
+            }
+            None => false,
+        }
+    }
+
+    /// This connection leaves, for another station over the file that it reads. Its session stays.
+    pub fn leave(&mut self, key: usize) -> Option<Client>
+        ensures left { result ≡ get self.old.clients.slots key }
+        ensures gone { get self.new.clients.slots key ≡ None }
+        ensures others { OthersStay key self.old.clients self.new.clients }
+        ensures live { self.new.live ≡ self.old.live }
+        ensures air { self.new.air ≡ self.old.air }
+    {
+        let client = self.clients.slots.try_remove(key)?;
+        leave(&mut self.spare, key);
+        Some(client)
+    }
+
+    /// A connection comes from another station. It gets the key that is returned, and a turn. After `Memory` it is gone.
+    pub fn enter(&mut self, client: Client) -> Result<usize, Memory>
+        ensures none { IfOk result (λ key. get self.old.clients.slots key ≡ None) }
+        ensures some { IfOk result (λ key. (clients : ClientsOf) × (get clients.slots key ≡ Some (come client))
+            × HasTurn key (arrived client) clients self.new.clients) }
+        ensures others { IfOk result (λ key. OthersStay key self.old.clients self.new.clients) }
+        ensures err { OnErr result ((key : ℕ) → get self.new.clients.slots key ≡ get self.old.clients.slots key) }
+        ensures live { self.new.live ≡ self.old.live }
+        ensures air { self.new.air ≡ self.old.air }
+    {
+        let mut client = client;
+        arrive(&mut client);
+        let key = insert(&mut self.clients.slots, client)?;
+        self.wake(key, true, true);
+        Ok(key)
+    }
+
+    /// This connection hears the file from its first page on, as it is.
+    pub fn hear_anew(&mut self, key: usize)
+        ensures hears { (client : ClientState) → get self.old.clients.slots key ≡ Some client → (after : ClientState)
+            × (get self.new.clients.slots key ≡ Some after) × HearsAnew client after }
+        ensures none { get self.old.clients.slots key ≡ None → self.new ≡ self.old }
+        ensures others { OthersStay key self.old.clients self.new.clients }
+        ensures live { self.new.live ≡ self.old.live }
+        ensures air { self.new.air ≡ self.old.air }
+    {
+        if let Some(client) = self.clients.slots.get_mut(key) {
+            hear_by(client, Listener::wait(self.alloc, 0));
+        }
+    }
+}

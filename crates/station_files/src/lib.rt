@@ -1,0 +1,18 @@
+//! A station over the files of a folder: it goes over from file to file, while those who read one that has ended go on.
+//!
+//! A `Station` serves one file. `Stations` has the one whose file is recorded, and one more for each file that has ended and
+//! is read still: a session gets the rest of its own answer there, and a listener hears the file to its end, and then the
+//! next one from its first page on. Who reads a file that has ended is told by its `Seat`.
+//!
+//! `Filed` has the folder (`Rotation` of archive_record). It says when the next file is begun, and changes the station's
+//! file for it: what is open is ended and kept, the file is cut to its pages, and the link that the source has open begins
+//! again in the next one.
+//!
+//! Start at `src/seats.rt`, and go on to `src/filed.rt`.
+#![tactic(auto)]
+
+mod filed;
+mod seats;
+
+pub use filed::{Clocks, Filed, Readers};
+pub use seats::{Move, Seat, Stations};

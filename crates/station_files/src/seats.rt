@@ -1,0 +1,333 @@
+//! The station whose file is recorded, and those that serve files that have ended to whoever reads them still.
+ghost use Rattle.std.specs.Prelude.{◌≡◌, ◌<◌, ◌^◌, length, IfSome};
+ghost use Rattle.station_files.specs.Seat.{token_of};
+ghost use Rattle.station_files.specs.declared.seats.Seat.{Seat as SeatOf};
+
+use disk_model::Disk;
+use station::{Client, Memory, Station};
+use station_hub::LiveHub;
+use std::alloc::Global;
+
+/// The place of a connection: which station it has, and its key there.
+#[derive(Clone, Copy, Debug, PartialEq, Eq)]
+pub struct Seat {
+    /// The number of the station: 0 is the one whose file is recorded. A station that serves a file that has ended has a
+    /// number that no other one has had.
+    pub station: u64,
+    pub key: usize,
+}
+
+/// How many keys of a station a token tells apart, and how many stations.
+const KEYS: usize = 1 << 32;
+
+const STATIONS: u64 = 1 << 31;
+
+/// For how many milliseconds those who read files that have ended are waited for at the end.
+const MOST_ENDING: u64 = 60_000;
+
+impl Seat {
+    /// A number that tells the seat, and is less than 2^63.
+    pub fn token(self) -> usize
+        ensures told { result ≡ token_of self }
+        ensures below { result < 2 ^ 63 }
+    {
+        (self.station % STATIONS) as usize * KEYS + self.key % KEYS
+    }
+
+    /// The seat that this number tells.
+    pub fn of_token(token: usize) -> Seat
+        ensures each { (seat : SeatOf) → seat.station < 2 ^ 31 → seat.key < 2 ^ 32 → token ≡ token_of seat → result ≡ seat }
+    {
+        Seat {
+            station: (token / KEYS) as u64,
+            key: token % KEYS,
+        }
+    }
+}
+
+/// A connection got another seat.
+#[derive(Clone, Copy, Debug, PartialEq, Eq)]
+pub struct Move {
+    pub from: Seat,
+    /// None if there was no memory: the connection is to be closed.
+    pub to: Option<Seat>,
+}
+
+/// A station over a file that has ended.
+#[derive(Drop)]
+struct Past<D: Disk> {
+    number: u64,
+    station: Station<D>,
+}
+
+/// The station whose file is recorded, and stations over files that have ended, in the order of their files.
+#[derive(Drop)]
+pub struct Stations<D: Disk> {
+    alloc: Global,
+    newest: Station<D>,
+    past: Vec<Past<D>>,
+    // the number of the one that was made last
+    last: u64,
+    moves: Vec<Move>,
+}
+
+/// Where the station with this number stands.
+fn place_of<D: Disk>(past: &[Past<D>], number: u64) -> Option<usize>
+    ensures { IfSome result (λ at. at < length past.now) }
+{
+    for (at, one) in past.iter().enumerate() {
+        if one.number == number {
+            return Some(at);
+        }
+    }
+    None
+}
+
+/// A connection enters a station under a new key.
+fn enter<D: Disk + Drop>(station: &mut Station<D>, number: u64, client: Client) -> Option<Seat> {
+    match station.enter(client) {
+        Ok(key) => Some(Seat {
+            station: number,
+            key,
+        }),
+        Err(_) => None,
+    }
+}
+
+/// A connection that has heard all of a file enters the station over the next one, and hears that from its first page on.
+fn enter_next<D: Disk + Drop>(
+    station: &mut Station<D>,
+    number: u64,
+    client: Client,
+) -> Option<Seat> {
+    let seat = enter(station, number, client)?;
+    station.hear_anew(seat.key);
+    Some(seat)
+}
+
+/// Takes a connection out that reads the file, if it does.
+fn take_reader<D: Disk + Drop>(station: &mut Station<D>, key: usize) -> Option<Client> {
+    if station.reads_file(key) {
+        station.leave(key)
+    } else {
+        None
+    }
+}
+
+impl<D: Disk + Drop> Stations<D> {
+    /// One station.
+    pub fn new(alloc: Global, newest: Station<D>) -> Stations<D>
+        ensures { result.newest ≡ newest }
+    {
+        Stations {
+            alloc,
+            newest,
+            past: Vec::new(alloc),
+            last: 0,
+            moves: Vec::new(alloc),
+        }
+    }
+
+    /// The station whose file is recorded.
+    pub fn newest(&self) -> &Station<D>
+        ensures { result.now ≡ self.now.newest }
+    {
+        &self.newest
+    }
+
+    /// The same, to be changed.
+    pub fn newest_mut(&mut self) -> &mut Station<D> {
+        &mut self.newest
+    }
+
+    /// The station whose file is recorded. The others are gone.
+    pub fn into_newest(self) -> Station<D>
+        ensures { result ≡ self.newest }
+    {
+        let Stations { newest, .. } = self;
+        newest
+    }
+
+    /// The station of a seat, if it is there.
+    pub fn at(&mut self, seat: Seat) -> Option<&mut Station<D>> {
+        if seat.station == 0 {
+            return Some(&mut self.newest);
+        }
+        let at = place_of(self.past.as_slice(), seat.station)?;
+        let past = self.past.get_mut(at)?;
+        Some(&mut past.station)
+    }
+
+    /// The system has told that this connection may have bytes, or room for some. It gets a turn.
+    pub fn wake(&mut self, seat: Seat, readable: bool, writable: bool) {
+        if let Some(station) = self.at(seat) {
+            station.wake(seat.key, readable, writable);
+        }
+    }
+
+    /// How many connections have a turn.
+    pub fn turns(&self) -> usize {
+        let mut turns = self.newest.turns();
+        for past in &self.past {
+            turns = turns.saturating_add(past.station.turns());
+        }
+        turns
+    }
+
+    /// The connection whose turn it is, if one has something to do.
+    pub fn next_turn(&mut self) -> Option<Seat> {
+        for at in 0..self.past.len() {
+            if let Some(past) = self.past.get_mut(at) {
+                if let Some(key) = past.station.next_turn() {
+                    return Some(Seat {
+                        station: past.number,
+                        key,
+                    });
+                }
+            }
+        }
+        let key = self.newest.next_turn()?;
+        Some(Seat { station: 0, key })
+    }
+
+    /// How many milliseconds may be waited, if nothing comes, until there is something to do.
+    pub fn until_next(&self, now: u64) -> u64 {
+        if self.turns() > 0 {
+            return 0;
+        }
+        self.newest.until_next(now)
+    }
+
+    /// Once a second everybody has a turn, and who was silent for too long is cut. It returns whether the second is over.
+    pub fn look(&mut self, now: u64) -> bool {
+        for at in 0..self.past.len() {
+            if let Some(past) = self.past.get_mut(at) {
+                past.station.look(now);
+            }
+        }
+        self.newest.look(now)
+    }
+
+    /// How many connections there are at stations over files that have ended.
+    pub fn readers(&self) -> usize {
+        let mut readers: usize = 0;
+        for past in &self.past {
+            readers = readers.saturating_add(past.station.connections());
+        }
+        readers
+    }
+
+    /// Whether the newest has come to its end, and nobody reads a file that has ended, or those who do have had a minute.
+    pub fn is_finished(&self, now: u64) -> bool {
+        self.newest.is_finished(now) && (self.readers() == 0 || self.has_waited(now))
+    }
+
+    /// Whether those who read files that have ended have had a minute since the newest comes to its end.
+    fn has_waited(&self, now: u64) -> bool {
+        match self.newest.ending() {
+            Some(since) => MOST_ENDING <= now.saturating_sub(since),
+            None => false,
+        }
+    }
+
+    /// Whether a connection reads the file that is recorded.
+    fn is_read(&self) -> bool {
+        for key in 0..self.newest.keys() {
+            if self.newest.reads_file(key) {
+                return true;
+            }
+        }
+        false
+    }
+
+    /// Makes the room that a change of the file needs.
+    pub fn prepare(&mut self) -> Result<(), Memory> {
+        self.past.reserve(1)?;
+        self.moves.reserve(self.newest.keys())
+    }
+
+    /// The file that was recorded has ended, and `live` has the next one: it is recorded and served from now on. Who reads
+    /// the one before goes on to, at a station of its own.
+    pub fn change(&mut self, live: LiveHub<D>) {
+        if !self.is_read() {
+            self.newest.change(live);
+            return;
+        }
+        let before = self.newest.change(live);
+        let number = self.last.saturating_add(1);
+        self.last = number;
+        match Station::over(self.alloc, before, self.newest.keys()) {
+            Ok(station) => {
+                let mut past = Past { number, station };
+                self.send_readers(&mut past);
+                let _ = self.past.push(past);
+            }
+            Err(_) => self.drop_readers(),
+        }
+    }
+
+    /// Who reads the file before moves to the station over it.
+    fn send_readers(&mut self, past: &mut Past<D>) {
+        for key in 0..self.newest.keys() {
+            if let Some(client) = take_reader(&mut self.newest, key) {
+                let to = enter(&mut past.station, past.number, client);
+                self.note_move(key, to);
+            }
+        }
+    }
+
+    /// Who reads the file before has no seat any more.
+    fn drop_readers(&mut self) {
+        for key in 0..self.newest.keys() {
+            if take_reader(&mut self.newest, key).is_some() {
+                self.note_move(key, None);
+            }
+        }
+    }
+
+    /// A connection of the newest has another seat, or none. The room for it was made.
+    fn note_move(&mut self, key: usize, to: Option<Seat>) {
+        let from = Seat { station: 0, key };
+        let _ = self.moves.push(Move { from, to });
+    }
+
+    /// After a turn of this connection: if it has heard all of a file that has ended it hears the next one from its first
+    /// page on, at another seat.
+    pub fn move_on(&mut self, seat: Seat) {
+        let Some(at) = place_of(self.past.as_slice(), seat.station) else {
+            return;
+        };
+        let Some(client) = self.leave(at, seat.key) else {
+            return;
+        };
+        let to = match self.past.get_mut(at.saturating_add(1)) {
+            Some(next) => enter_next(&mut next.station, next.number, client),
+            None => enter_next(&mut self.newest, 0, client),
+        };
+        let _ = self.moves.push(Move { from: seat, to });
+    }
+
+    /// A connection leaves a station over a file that has ended, if it has heard all of that.
+    fn leave(&mut self, at: usize, key: usize) -> Option<Client> {
+        let past = self.past.get_mut(at)?;
+        if !past.station.has_heard_all(key) {
+            return None;
+        }
+        past.station.leave(key)
+    }
+
+    /// A file that has ended is closed once nobody reads it.
+    pub fn close_unread(&mut self) {
+        self.past.retain(|past| past.station.connections() > 0);
+    }
+
+    /// The moves since they were taken up last, in their order.
+    pub fn moves(&self) -> &[Move] {
+        self.moves.as_slice()
+    }
+
+    /// The moves were taken up.
+    pub fn took_moves(&mut self) {
+        self.moves.clear();
+    }
+}

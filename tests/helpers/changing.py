@@ -1,0 +1,223 @@
+#!/usr/bin/env python3
+"""A station over a folder: its files change while sources send, listeners hear and clients fetch, on 127.0.0.1.
+
+`changing.py hears PROGRAM WORK` has listeners join before and while three sources send, over files of few bytes: whoever
+was there first hears every file as it is, and who joins later hears each file after the one that it joined in.
+`changing.py fetches PROGRAM WORK` has clients ask for a long file that ends before they read what they get.
+`changing.py fails PROGRAM LIBRARY WORK` has each device call fail once, by the library of failing.c, while two sources
+come one after the other: one of them may lose something, and is told so.
+`changing.py kills PROGRAM WORK COUNT` kills the station again and again over one growing folder while a source sends and
+ten listen: what any of them heard must be in its files, and the same command line goes on.
+
+Each prints a line for what is wrong, and last how much was tried; the status is 1 if something was wrong.
+"""
+import os
+import random
+import socket
+import struct
+import sys
+import threading
+import time
+
+from archiving import found, stream
+from filing import files_of, wrong
+from stationing import BASIC, Listener, Station, Told, faults_heard, is_whole, read_all, request, send_until_killed, until
+
+
+def made(work, name):
+    path = os.path.join(work, name)
+    os.mkdir(path)
+    return path + "/"
+
+
+def pages_of(folder):
+    """The pages of each file, in the order of the files."""
+    files = [data for _, _, _, data, _ in files_of(folder)]
+    return [data[: found(data)[1]] for data in files]
+
+
+def is_open(station):
+    return b"open" in station.ask(b"GET / HTTP/1.0\r\n\r\n")
+
+
+def hears(program, work):
+    told = Told()
+    folder = made(work, "hears")
+    station = Station(program, folder, "--most-bytes", "2500")
+    early = Listener(station)
+    early.start()
+    time.sleep(0.3)
+    late, whole = [], {}
+    for seed in (31, 32, 33):
+        pages = list(stream(seed, 160))
+        whole[seed] = 2 * 159
+        with station.connect() as one:
+            one.sendall(request(b"PUT", BASIC))
+            for number, page in enumerate(pages):
+                one.sendall(page)
+                time.sleep(0.003)
+                if number % 13 == 7:
+                    late.append(Listener(station))
+                    late[-1].start()
+    told.check("the last link ends", until(lambda: not is_open(station)))
+    files = pages_of(folder)
+    data = b"".join(files)
+    until(lambda: len(early.body()) >= len(data))
+    until(lambda: all(one.body()[-40:] == data[-40:] for one in late))
+    faults, _ = wrong(folder, whole, ended=True)
+    told.check("the files", not faults, faults[:5])
+    told.check("files change", len(files) > 10, len(files))
+    told.check("who was there first hears every file as it is", early.body() == data, len(early.body()), len(data))
+    known = {each for one in files for link in found(one)[0] for each in link["packets"]}
+    over = 0
+    for number, one in enumerate(late):
+        heard = one.body()
+        for fault in faults_heard(heard, known):
+            told.check("listener %d" % number, False, fault)
+        # What is heard of the file in which it joined is some of it; each one after that is heard as it is.
+        after = [at for at in range(len(files)) if heard.endswith(b"".join(files[at:]))]
+        told.check("listener %d: how much is heard as it is" % number, bool(after), len(heard))
+        if after:
+            front = heard[: len(heard) - len(b"".join(files[after[0] :]))]
+            told.check("listener %d: one file is joined" % number, len(front) < 2 * 2500, len(front), after[0])
+            over += len(files) - after[0] > 2
+    told.check("many hear changes", over > len(late) / 2, over, len(late))
+    for one in [early, *late]:
+        told.check("a listener goes on", one.is_alive())
+        one.one.shutdown(socket.SHUT_RDWR)
+    err = station.stop()
+    told.check("standard error", b"fault" not in err and b"lost" not in err, err[-300:])
+    told.check("each file is told", err.count(b" begins ") == len(files) and err.count(b" ends ") == len(files) - 1)
+    return told.end()
+
+
+def fetches(program, work):
+    told = Told()
+    folder = made(work, "fetches")
+    station = Station(program, folder, "--most-bytes", "9000000")
+    body = b"".join(stream(41, 60000))
+    told.check("a long source", b" 200 " in station.ask(request(b"PUT", BASIC, b"Content-Length: %d" % len(body)), body)[:20])
+    length = station.committed()
+    asked = {
+        b"GET /link/0 HTTP/1.0\r\n\r\n": (0, length),
+        b"GET /link/0 HTTP/1.0\r\nRange: bytes=1000-\r\n\r\n": (1000, length),
+        b"GET /link/0/77 HTTP/1.0\r\n\r\n": (0, length),
+    }
+    waiting = []
+    for head in asked:
+        one = station.connect()
+        one.setsockopt(socket.SOL_SOCKET, socket.SO_RCVBUF, 4096)
+        one.sendall(head)
+        waiting.append((head, one, one.recv(100)))
+    for seed in (42, 43):
+        more = b"".join(stream(seed, 60000))
+        answer = station.ask(request(b"PUT", BASIC, b"Content-Length: %d" % len(more)), more)
+        told.check("a source", b" 200 " in answer[:20], answer)
+    files = pages_of(folder)
+    told.check("the file has changed", len(files) > 1, [len(one) for one in files])
+    for head, one, front in waiting:
+        got = (front + read_all(one)).partition(b"\r\n\r\n")
+        one.close()
+        start, end = asked[head]
+        told.check("%r is sent to its end" % head, got[2] == files[0][start:end], len(got[2]), end - start)
+    newest = station.ask(b"GET /link/0 HTTP/1.0\r\n\r\n").partition(b"\r\n\r\n")[2]
+    told.check("what is asked for now is of the newest", files[-1].startswith(newest) and newest)
+    # Nobody reads the files that have ended: they are closed again.
+    fds = "/proc/%d/fd" % station.process.pid
+    links = lambda: [os.readlink(os.path.join(fds, it)) for it in os.listdir(fds)]
+    told.check("files that have ended are closed", until(lambda: sum(it.endswith(".ogg") for it in links()) <= 2), links())
+    err = station.stop()
+    told.check("standard error", b"fault" not in err, err[-300:])
+    faults, _ = wrong(folder, {seed: 2 * 59999 for seed in (41, 42, 43)}, ended=True)
+    told.check("the files", not faults, faults[:5])
+    return told.end()
+
+
+def fails(program, library, work):
+    told = Told()
+    mark = os.path.join(work, "met")
+    for how in ("io", "full"):
+        for call in range(1, 300):
+            if os.path.exists(mark):
+                os.remove(mark)
+            folder = made(work, "fails-%s-%d" % (how, call))
+            failing = {"LD_PRELOAD": library, "FAILING_CALL": str(call), "FAILING_HOW": how, "FAILING_MET": mark}
+            station = Station(program, folder, "--most-bytes", "400", **failing)
+            answers = {}
+            for seed in (51, 52):
+                body = b"".join(stream(seed, 8))
+                if station.process.poll() is None:
+                    answers[seed] = station.ask(request(b"PUT", BASIC, b"Content-Length: %d" % len(body)), body)
+            err = station.stop()
+            if not os.path.exists(mark):
+                break
+            name = "%s at call %d" % (how, call)
+            links = [link for data in pages_of(folder) for link in found(data)[0]]
+            kept = {seed: [one for one in links if one["packets"][0] == struct.pack("<II", seed, 0)] for seed in (51, 52)}
+            taken = [seed for seed in answers if b" 200 " in answers[seed].split(b"\r\n")[0]]
+            for seed in taken:
+                packets = [each for one in kept[seed] for each in one["packets"][1:] if each]
+                whole = [each for page in [stream(seed, 8)] for each in packets_of(page)]
+                told.check("%s: whoever is told 200 is whole" % name, packets == whole, seed, len(packets), err)
+            told.check("%s: one source loses something at most" % name, len(taken) >= len(answers) - 1, answers, err)
+            told.check("%s: it goes on" % name, len(answers) == 2 or err.splitlines()[-1].startswith(b"fault "), err)
+        else:
+            told.check("%s: it ends" % how, False)
+    return told.end()
+
+
+def packets_of(pages):
+    """The packets of a stream, but for its first."""
+    return [each for each in found(b"".join(pages))[0][0]["packets"][1:] if each]
+
+
+def kills(program, work, count):
+    told, source = Told(), random.Random(12)
+    folder = made(work, "kills")
+    heard, kept, at_most = 0, [], 0
+    for turn in range(count):
+        station = Station(program, folder, "--most-bytes", str(source.choice([600, 3000])), "--every", "1s")
+        pause = source.choice([0.0005, 0.003])
+        sender = threading.Thread(target=send_until_killed, args=(station, 1000 + turn, pause), daemon=True)
+        sender.start()
+        listeners = []
+        end = time.monotonic() + source.uniform(0.1, 0.8)
+        while time.monotonic() < end:
+            if len(listeners) < 10:
+                listeners.append(Listener(station))
+                listeners[-1].start()
+            time.sleep(0.005)
+        station.process.send_signal(9)
+        err = station.process.communicate(timeout=20)[1]
+        sender.join(20)
+        for one in listeners:
+            one.join(20)
+        files = pages_of(folder)
+        told.check("turn %d: what was there" % turn, all(now.startswith(was) for was, now in zip(kept, files)))
+        told.check("turn %d: no file is gone" % turn, len(files) >= len(kept))
+        faults, _ = wrong(folder)
+        told.check("turn %d: the files" % turn, not faults, faults[:3])
+        known = {each for one in files[max(len(kept) - 2, 0) :] for link in found(one)[0] for each in link["packets"]}
+        for one in listeners:
+            heard += len(one.body())
+            for fault in faults_heard(one.body(), known):
+                told.check("turn %d" % turn, False, fault)
+        told.check("turn %d: standard error" % turn, b"fault" not in err and b"mended" not in err, err[-300:])
+        kept = files
+        at_most = max(at_most, len(files))
+    told.check("files change", at_most > 2 * count, at_most)
+    told.check("something was heard", heard > 1000 * count, heard)
+    return told.end()
+
+
+def main():
+    what, program, *more, work = sys.argv[1:] if sys.argv[1] != "kills" else [*sys.argv[1:3], sys.argv[4], sys.argv[3]]
+    if what == "kills":
+        return kills(program, work, int(more[0]))
+    if what == "fails":
+        return fails(program, more[0], work)
+    return {"hears": hears, "fetches": fetches}[what](program, work)
+
+
+if __name__ == "__main__":
+    sys.exit(main())
