@@ -35,9 +35,10 @@ name in a function whose proof file cites it. That it is proved, or that nothing
 refused is a failure, since so might be any right body.
 
 The crates below must be built, as './check' and './kudzuturret' leave them, and not be older than their files. As many
-crates are tried side by side as there are processors. With --minutes no check begins after so many: the crates that
-were changed last are tried first then, and a line names what wasn't tried. What a check says is read as the kit in KIT
-says it; the first line tells of another kit. The last line is 'N passed, M failed'; the status is 0 if nothing failed.
+crates are tried side by side as there are processors. With --minutes no check begins after so many: the crates that the
+newest commits changed are tried first then, and the others from a place that moves with each commit; a line names what
+wasn't tried, and one tells how many those are. What a check says is read as the kit in KIT says it; the first line tells
+of another kit. The last line is 'N passed, M failed'; the status is 0 if nothing failed.
 """
 import argparse
 import itertools
@@ -58,6 +59,10 @@ TOP = Path(__file__).resolve().parent.parent
 LONGEST = 3600
 # What a check may take of the memory, in bytes.
 MEMORY = 3_000_000_000
+# Stands between a crate and the names of its wrong bodies for which there was no time.
+NOT_TRIED = ": not tried for want of time:"
+# So many commits are the newest: what they changed is tried first, if there may be no time for all.
+NEWEST = 7
 
 
 # The kit whose checks this script reads.
@@ -430,7 +435,7 @@ class Checker:
             for copy in copies:
                 if time.monotonic() > end:
                     names = " ".join(it.name for it in copy.edits)
-                    lines.append((None, f"{crate.name}: not tried for want of time: {names}"))
+                    lines.append((None, f"{crate.name}{NOT_TRIED} {names}"))
                     continue
                 try:
                     lines += verdicts(crate, copy, *self.check(crate, copy, room))
@@ -501,11 +506,22 @@ def side_by_side():
     return max(1, min(len(os.sched_getaffinity(0)), free // MEMORY))
 
 
-def last_change(crate):
-    """When the crate was changed last, by the history; a moment of long ago if there is none."""
-    words = ["git", "log", "-1", "--format=%ct", "--", str(crate.folder)]
-    told = subprocess.run(words, cwd=TOP, stdout=subprocess.PIPE, stderr=subprocess.DEVNULL, text=True)
-    return int(told.stdout.strip() or 0)
+def history(*words):
+    """The lines that git tells of the history; none if there is none."""
+    told = subprocess.run(["git", *words], cwd=TOP, stdout=subprocess.PIPE, stderr=subprocess.DEVNULL, text=True)
+    return told.stdout.split()
+
+
+def in_turn(trials):
+    """The crates that the newest commits changed, the newest first, and then the others, from a place that moves with each
+    commit: so that each has its turn, if there isn't time for all."""
+    changed = history("log", f"-{NEWEST}", "--format=", "--name-only", "--", "crates")
+    newest = list(dict.fromkeys(it.split("/")[1] for it in changed))
+    first = sorted((it for it in trials if it[0].name in newest), key=lambda it: newest.index(it[0].name))
+    others = [it for it in trials if it[0].name not in newest]
+    count = int((history("rev-list", "--count", "HEAD") or [0])[0])
+    start = NEWEST * count % max(len(others), 1)
+    return first + others[start:] + others[:start]
 
 
 def main():
@@ -538,9 +554,9 @@ def main():
     # Those with most to try first, so that no processor waits for the last, unless there may be no time for all.
     trials.sort(key=lambda it: sum(len(copy.edits) for copy in it[1]), reverse=True)
     if end < math.inf:
-        trials.sort(key=lambda it: last_change(it[0]), reverse=True)
+        trials = in_turn(sorted(trials, key=lambda it: it[0].name))
 
-    passed = failed = 0
+    passed = failed = untried = 0
     with ThreadPoolExecutor(side_by_side()) as pool:
         found = [] if asked else [pool.submit(right_body, checker)]
         found += [pool.submit(checker.tried, *it, end) for it in trials]
@@ -548,6 +564,9 @@ def main():
             for is_well, line in told:
                 print(line, flush=True)
                 passed, failed = passed + (is_well is True), failed + (is_well is False)
+                untried += line.partition(NOT_TRIED)[2].count(" ") if is_well is None else 0
+    if untried:
+        print(f"{untried} wrong bodies weren't tried for want of time: ./check --all tries them")
     print(f"{passed} passed, {failed} failed")
     return 0 if passed and not failed else 1
 

@@ -131,6 +131,33 @@ station_listeners() {
 sealed() {
     timeout 20 "$program" station "$work/$1.ogg" 127.0.0.1:0 --seal "${@:3}" <"$2" >"$work/out" 2>"$work/err"
 }
+# filed NAME STREAM WORD ..: the same into a folder.
+filed() {
+    timeout 20 "$program" station "$work/$1/" 127.0.0.1:0 --seal "${@:3}" <"$2" >"$work/out" 2>"$work/err"
+}
+station_every() {
+    for _ in 1 2; do
+        filed sthours "$work/whole" --every 1000w && filed stseconds "$work/whole" --every 1s || return 1
+        sleep 1.1
+    done
+    [ "$(files "$work/sthours")" -eq 1 ] && [ "$(files "$work/stseconds")" -eq 2 ]
+}
+station_most_bytes() {
+    filed stone "$work/stream" && filed stmany "$work/stream" --most-bytes 400 || return 1
+    [ "$(files "$work/stone")" -eq 1 ] && [ "$(files "$work/stmany")" -gt 3 ]
+}
+station_keep() {
+    filed stkept "$work/stream" --most-bytes 400 || return 1
+    local before
+    before=$(files "$work/stkept")
+    sleep 2.1
+    filed stkept "$work/whole" --most-bytes 400 && [ "$(files "$work/stkept")" -ge "$before" ] || return 1
+    filed stkept "$work/whole" --most-bytes 400 --keep 1s && [ "$(files "$work/stkept")" -lt "$before" ]
+}
+station_keep_bytes() {
+    filed stleast "$work/stream" --most-bytes 400 --keep-bytes 900 || return 1
+    [ "$(files "$work/stleast")" -lt "$(files "$work/folder")" ] && has "$work/err" removed
+}
 station_skeleton() {
     sealed st1 "$work/whole" --skeleton 77 && has "$work/st1.ogg" fishead
 }
