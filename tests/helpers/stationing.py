@@ -16,6 +16,7 @@ Each prints a line for what is wrong, and last how much was tried; the status is
 import base64
 import os
 import random
+import re
 import selectors
 import socket
 import struct
@@ -237,9 +238,75 @@ def sources(program, work):
     told.check("off the air", until(lambda: b"open" not in station.ask(b"GET / HTTP/1.0\r\n\r\n")))
     seed = 60
     offer("the next source", request(b"SOURCE", BASIC, version=b"1.0"), b"".join(stream(60, 3)), b"200", False)
-    err = station.stop()
-    told.check("standard error", b"fault" not in err, err)
+    lines = foreign(told, station, path, offer)
+    err = station.stop().split(b"\n")
+    wrong = [line for line in err if line.startswith(b"fault") and not re.fullmatch(NO_OGG, line)]
+    told.check("standard error", not wrong and sum(1 for line in err if re.fullmatch(NO_OGG, line)) == lines, err)
     return told.end()
+
+
+NO_OGG = rb"fault archive 4 NoPage: 127\.0\.0\.1:[0-9]+ sends no Ogg"
+
+
+def foreign(told, station, path, offer):
+    """Streams that aren't Ogg: 65,536 bytes without a page say so, before they end. Returns how many there were."""
+    noise = random.Random(8)
+    mp3 = b"".join(b"\xff\xfb\x90\x64" + noise.randbytes(413) for _ in range(400))
+    page = b"<!DOCTYPE html>\n" + b"O" * 30000 + b"OggS" * 20000
+    end = station.committed()
+    lines = 0
+
+    def ends_at_once(name, head, body, want):
+        nonlocal lines
+        lines += 1
+        with station.connect() as one:
+            one.sendall(head + body)
+            got = read_all(one)
+        told.check(name, got.startswith(want) and got.count(b"HTTP/1.") == 1, got[:200])
+        told.check(name + ": the file", station.committed() == end)
+
+    in_chunks = request(b"PUT", BASIC, b"Transfer-Encoding: chunked")
+    no_media = b"HTTP/1.1 415 Unsupported Media Type\r\nContent-Length: 0\r\nConnection: close\r\n\r\n"
+    ends_at_once("no Ogg", request(b"PUT", BASIC), mp3, no_media)
+    ends_at_once("no Ogg, with a length", request(b"PUT", BASIC, b"Content-Length: 1000000000"), mp3, no_media)
+    ends_at_once("no Ogg, in chunks", in_chunks, chunked(mp3, noise)[:-5], no_media)
+    ends_at_once("no Ogg, by SOURCE in HTTP/1.1", request(b"SOURCE", BASIC), mp3, no_media)
+    ends_at_once("no Ogg, by SOURCE", request(b"SOURCE", BASIC, version=b"1.0"), mp3, b"HTTP/1.0 200 OK\r\n\r\n")
+    ends_at_once("a web page", in_chunks, chunked(page, noise)[:-5], no_media)
+
+    # A byte fewer says nothing yet, and neither does a page that begins at the last of them. A page's head has 27 bytes.
+    whole = b"".join(stream(61, 3))
+    for name, head in (("no page so far", request(b"PUT", BASIC)), ("no page so far, in chunks", in_chunks)):
+        lines += 1
+        with station.connect() as one:
+            one.sendall(head + (b"ffff\r\n" if head is in_chunks else b"") + bytes(65535))
+            one.settimeout(0.3)
+            told.check(name, read_all(one) == b"")
+            one.sendall((b"\r\n1b\r\n" if head is in_chunks else b"") + bytes(27))
+            one.settimeout(20)
+            told.check(name + ": and a head more", read_all(one) == no_media)
+    lines += 1
+    sent = bytes(65536) + whole
+    offer("a page after 65,536 bytes", request(b"PUT", BASIC, b"Content-Length: %d" % len(sent)), sent, b"415", True)
+    told.check("a page after 65,536 bytes: the file", station.committed() == end)
+    sent = bytes(65535) + whole + bytes(200000) + b"".join(stream(62, 3))
+    offer("a page after 65,535 bytes", request(b"PUT", BASIC, b"Content-Length: %d" % len(sent)), sent, b"200", True)
+    with open(path, "rb") as file:
+        streams, _ = found(file.read())
+    firsts = [struct.unpack("<II", one["packets"][0])[0] for one in streams[-2:]]
+    told.check("a page after 65,535 bytes: both streams", firsts == [61, 62], firsts)
+
+    # The air is free at once, also for a source that waits for it.
+    with station.connect() as first, station.connect() as second:
+        lines += 1
+        first.sendall(request(b"PUT", BASIC) + mp3[:60000])
+        time.sleep(0.2)
+        sent = b"".join(stream(63, 3))
+        second.sendall(request(b"PUT", BASIC, b"Content-Length: %d" % len(sent)) + sent)
+        first.sendall(mp3[60000:])
+        told.check("a source that waits", read_all(second).startswith(b"HTTP/1.1 200 "))
+        told.check("no Ogg before it", read_all(first) == no_media)
+    return lines
 
 
 # ---- answers

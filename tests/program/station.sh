@@ -205,6 +205,30 @@ check "an input that can't be read: status $status" [ "$status" -eq 1 ]
 check "it is told" grep -qx "fault archive 1 Read" "$work/err"
 check "the run ends with a fault" [ "$(tail -n 1 "$work/err")" = "fault refused" ]
 
+# Standard input that isn't Ogg is told so after 64 KiB, and is no source any more; others may be one.
+head -c 70000 /dev/zero >"$work/zeros"
+run station "$work/zeros.ogg" 127.0.0.1:0 --seal <"$work/zeros"
+check "no Ogg on standard input: status $status" [ "$status" -eq 1 ]
+check "no Ogg on standard input is told" grep -qx "fault archive 4 NoPage: input sends no Ogg" "$work/err"
+check "no Ogg on standard input: the last line" [ "$(tail -n 1 "$work/err")" = "fault refused" ]
+mkfifo "$work/input"
+up "$work/zeros.ogg" --password-file "$work/password" --log <>"$work/input"
+cat "$work/zeros" >"$work/input"
+for _ in $(seq 200); do
+    grep -q NoPage "$work/err" && break
+    sleep 0.02
+done
+check "no Ogg on standard input is told at once" grep -qx "fault archive 4 NoPage: input sends no Ogg" "$work/err"
+check "its end in the log" grep -qx "source 1 ends 0 0 0" "$work/err"
+cat "$work/whole" >"$work/input"
+check "a source after it" [ "$(code -u source:secret -T "$work/whole" "http://127.0.0.1:$port/x")" = 200 ]
+check "no Ogg, sent by curl" [ "$(code -u source:secret -T "$work/zeros" "http://127.0.0.1:$port/x")" = 415 ]
+check "no Ogg, sent by curl in chunks" [ "$(code -u source:secret -T - "http://127.0.0.1:$port/x" <"$work/zeros")" = 415 ]
+check "what is refused is counted" [ "$(metric kudzuturret_sources_refused_total)" = 3 ]
+check "nothing of it is mended" [ "$(metric 'kudzuturret_mends_total{kind="Junk"}')" = 0 ]
+check "one link" until_listed 'link 0 0 122 1'
+down
+
 # Faults before it serves.
 run station "$work/http.ogg" nowhere </dev/null
 came "no address" 1 '' 'fault net\n'

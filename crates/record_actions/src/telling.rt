@@ -125,6 +125,14 @@ impl<'a> Told<'a> {
         let _ = write_fault(&Fault::Archive(fault), &mut self.rt.stderr());
     }
 
+    /// A source was turned away, which this line tells: nothing of it is recorded.
+    pub fn turned_away(&mut self, line: &[u8])
+        ensures noted { self.new.is_refused ≡ true }
+    {
+        self.tell(line);
+        self.is_refused = true;
+    }
+
     /// A page that begins at this offset was taken.
     pub fn taken(&mut self, offset: u64, taken: &Taken)
         ensures page { self.new.has_pages ≡ self.old.has_pages }

@@ -13,6 +13,10 @@ abbrev pub begin_line : ℕ → List ℕ → List ℕ
 begin_line number address =
     codes "source " ++ (decimal number ++ (codes " " ++ (address ++ (codes " begins" ++ line_end))))
 
+-- a source was turned away, from this address: no page came of it
+abbrev pub foreign_line : List ℕ → List ℕ
+foreign_line address = codes "fault archive 4 NoPage: " ++ (address ++ (codes " sends no Ogg" ++ line_end))
+
 -- a source has ended: how many links and packets it had, and how often something of it was mended
 abbrev pub end_line : SourceCounts → List ℕ
 end_line source =

@@ -20,6 +20,6 @@ pub use connections::{live_next, serve_next, unless};
 pub use feeds::{FileFeed, is_lost, open_feed, record_rest};
 pub use hearing::{HeardDisk, hear_file};
 pub use hubs::{Opened, close, close_hub, open_grouped, open_hub};
-pub use log::{Log, tell_serving};
+pub use log::{Log, tell_foreign, tell_serving};
 pub use passwords::read_password;
 pub use server::{live, serve};

@@ -1,6 +1,6 @@
 //! The lines of a station: where it can be reached, and those of its log that tell of its sources.
 ghost use Rattle.std.specs.Prelude.{◌≡◌, ◌≤◌, length};
-ghost use Rattle.serve_actions.specs.Lines.{begin_line, end_line, serving_line};
+ghost use Rattle.serve_actions.specs.Lines.{begin_line, end_line, foreign_line, serving_line};
 
 use text_line::Line;
 
@@ -40,6 +40,18 @@ pub(crate) fn begin_line(number: u64, address: &[u8]) -> Line
     line.put_text(b" ");
     line.put_number(number);
     line.put_text(b"source ");
+    line
+}
+
+/// The line that tells that what comes from this address isn't Ogg.
+pub(crate) fn foreign_line(address: &[u8]) -> Line
+    requires { length address.now ≤ 64 }
+    ensures { result.text ≡ foreign_line address.now }
+{
+    let mut line = Line::new();
+    line.put_text(b" sends no Ogg");
+    line.put_text(address);
+    line.put_text(b"fault archive 4 NoPage: ");
     line
 }
 

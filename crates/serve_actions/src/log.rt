@@ -2,7 +2,7 @@
 //! for each source.
 ghost use Rattle.std.specs.Prelude.{◌≤◌, length};
 
-use crate::lines::{SourceCounts, begin_line, end_line, serving_line};
+use crate::lines::{SourceCounts, begin_line, end_line, foreign_line, serving_line};
 use ogg_page::write_whole;
 use record_actions::Told;
 use serve_sources::FULL;
@@ -19,6 +19,29 @@ pub fn tell_serving(rt: &HostRuntime, address: SocketAddr) {
     if let Ok(address) = address.to_string(rt.alloc()) {
         let line = serving_line(shown(address.as_bytes()));
         let _ = write_whole(&mut rt.stderr(), line.as_slice());
+    }
+}
+
+/// Tells that a source was turned away, since its stream isn't Ogg: standard input, or a connection, whose address is
+/// known unless it is closed.
+pub fn tell_foreign(
+    rt: &HostRuntime,
+    told: &mut Told<'_>,
+    is_input: bool,
+    address: Option<SocketAddr>,
+) {
+    match address {
+        Some(address) => tell_foreign_from(address.to_string(rt.alloc()), told),
+        None if is_input => told.turned_away(foreign_line(b"input").as_slice()),
+        None => told.turned_away(foreign_line(b"a connection").as_slice()),
+    }
+}
+
+/// The same of a connection from this address. It isn't told without memory for its text.
+fn tell_foreign_from(address: Result<String, AllocError>, told: &mut Told<'_>) {
+    match address {
+        Ok(address) => told.turned_away(foreign_line(shown(address.as_bytes())).as_slice()),
+        Err(_) => told.turned_away(foreign_line(b"a connection").as_slice()),
     }
 }
 

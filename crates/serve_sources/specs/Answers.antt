@@ -3,7 +3,7 @@
 use Rattle.std.specs.Prelude.{ℕ, List, [], ◌++◌, codes}
 use Rattle.ogg_http.specs.Answer.{line}
 use Rattle.serve_sources.specs.declared.outcome.Outcome.{Outcome}
-use Rattle.serve_sources.specs.declared.outcome.Outcome.TheVariants.{Whole, Broken, Lost}
+use Rattle.serve_sources.specs.declared.outcome.Outcome.TheVariants.{Whole, Broken, Lost, Foreign}
 use Rattle.serve_sources.specs.declared.refused.Refused.{Refused}
 use Rattle.serve_sources.specs.declared.refused.Refused.TheVariants.{BadRequest, Unauthorized, OnTheAir}
 
@@ -29,11 +29,13 @@ abbrev pub accepted_text : List ℕ
 accepted_text = line (codes "HTTP/1.0 200 OK") ++ line []
 
 -- A body's end was found, or that there is none: it was taken whole (RFC 9110, section 15.3.1), the client's framing is
--- at fault (section 15.5.1), or the server couldn't take something of it (section 15.6.1).
+-- at fault (section 15.5.1), or the server couldn't take something of it (section 15.6.1). Or it is in a format that isn't
+-- supported (section 15.5.16).
 abbrev pub answer_after : Outcome → List ℕ
 answer_after Whole = line (codes "HTTP/1.1 200 OK") ++ end_of_answer
 answer_after Broken = refusal BadRequest
 answer_after Lost = line (codes "HTTP/1.1 500 Internal Server Error") ++ end_of_answer
+answer_after Foreign = line (codes "HTTP/1.1 415 Unsupported Media Type") ++ end_of_answer
 
 -- the head before what is live: its content ends with the connection (RFC 9112, section 6.3), and no cache keeps it
 -- (RFC 9111, section 5.2.2.5). The type is RFC 5334's.

@@ -105,6 +105,13 @@ impl Body {
         self.framed
     }
 
+    /// Whether the answer before the body was the last one.
+    pub fn is_answered(&self) -> bool
+        ensures { result ≡ self.now.answered }
+    {
+        self.answered
+    }
+
     /// Whether the source waits for an answer at the end of its body: the end is marked, and the answer before the body
     /// wasn't the last one.
     pub fn awaits_answer(&self) -> bool

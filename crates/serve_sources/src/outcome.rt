@@ -11,6 +11,8 @@ pub enum Outcome {
     Broken,
     /// Something of it couldn't be taken: 500.
     Lost,
+    /// It isn't Ogg: 415. Nothing of it was taken.
+    Foreign,
 }
 
 impl Outcome {
@@ -26,6 +28,9 @@ impl Outcome {
                 Content-Length: 0\r\n\
                 Connection: close\r\n\r\n",
             Outcome::Lost => b"HTTP/1.1 500 Internal Server Error\r\n\
+                Content-Length: 0\r\n\
+                Connection: close\r\n\r\n",
+            Outcome::Foreign => b"HTTP/1.1 415 Unsupported Media Type\r\n\
                 Content-Length: 0\r\n\
                 Connection: close\r\n\r\n",
         }

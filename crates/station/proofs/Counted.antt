@@ -50,6 +50,7 @@ done_counts Does.Bytes one other is = is
 done_counts (Does.Flushed reply) one other is = is
 done_counts (Does.Stepped step) one other is = stepped step one other is
 done_counts (Does.Ended offset junk taken refused) one other is = took junk taken one other is
+done_counts (Does.Foreign feeder passed refused) one other is = is
 done_counts (Does.GivenUp fault refused) one other is = is
 done_counts (Does.Reopened answered) one other is = by_streams reopened (λ c. refl) one other is
 done_counts (Does.Lost fault) one other is = is

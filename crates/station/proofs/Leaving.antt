@@ -1,5 +1,6 @@
 -- A source that leaves the air, and of which something is lost.
-use Rattle.std.proofs.Common.{◌≡◌, ◌⊎◌, ◌||◌, Bool, true, Option, Some, None, if◌then◌else◌, sym, ◌∙◌, ap, subst, inl, inr}
+use Rattle.std.proofs.Common.{◌≡◌, ◌⊎◌, ◌||◌, ℕ, Bool, true, Option, Some, None, if◌then◌else◌, sym, ◌∙◌, ap, subst, inl, inr}
+use Rattle.std.proofs.lemmas.Bool.{cases_Bool}
 use Rattle.gate_file.specs.declared.fault.OpenFault.{OpenFault}
 use Rattle.import_record.specs.declared.answering.Answered.{Answered}
 use Rattle.import_record.specs.declared.fault.RecordFault.{RecordFault}
@@ -7,7 +8,9 @@ use Rattle.ogg_command.specs.declared.refusal.Refusal.{Refusal}
 use Rattle.serve_clients.specs.Client.{ClientState}
 use Rattle.serve_sources.specs.declared.body.Body.{Body}
 use Rattle.serve_sources.specs.declared.outcome.Outcome.TheVariants.{Lost}
-use Rattle.station_sources.specs.Air.{outcome_of, parting_answer, wants_answer}
+use Rattle.station_sources.specs.Taking.{is_foreign}
+use Rattle.station_sources.specs.declared.air.Feeder.{Feeder}
+use Rattle.station_sources.specs.Air.{HasNoPage, foreign_answer, outcome_of, parting_answer, parting_in, wants_answer}
 use Rattle.station.specs.Parting.{HasParted}
 use Rattle.station_sources.specs.declared.air.OnAir.{OnAir}
 use Rattle.station.specs.declared.stepping.Done.{Done}
@@ -16,11 +19,19 @@ use Rattle.station.specs.declared.stepping.Done.TheVariants.{Failed, GivenUp, Lo
 pub same_air : (one other : OnAir) → Some one ≡ Some other → one ≡ other
 same_air one other e = cc
 
--- what it is answered depends on its body alone
-pub lost_answer : (one other : OnAir) (client after : ClientState) → one.body ≡ other.body → HasParted (parting_answer true one) client after
-    → HasParted (parting_answer true other) client after
-lost_answer one other client after same parted =
-    subst (λ (body : Option Body). HasParted (if wants_answer body then Some Lost else None) client after) same parted
+-- what it is answered depends on its body, and on whether it is Ogg
+pub lost_answer : (one other : OnAir) (client after : ClientState) → one.body ≡ other.body → one.foreign ≡ other.foreign
+    → HasParted (parting_answer true one) client after → HasParted (parting_answer true other) client after
+lost_answer one other client after same kind parted = elim (cases_Bool other.foreign) [
+  | inl is ↦
+      subst (λ (b : Bool). HasParted (parting_in b true other.complete other.body) client after) (sym is)
+      (subst (λ (body : Option Body). HasParted (foreign_answer body) client after) same
+      (subst (λ (b : Bool). HasParted (parting_in b true one.complete one.body) client after) (kind ∙ is) parted))
+  | inr isnt ↦
+      subst (λ (b : Bool). HasParted (parting_in b true other.complete other.body) client after) (sym isnt)
+      (subst (λ (body : Option Body). HasParted (if wants_answer body then Some Lost else None) client after) same
+      (subst (λ (b : Bool). HasParted (parting_in b true one.complete one.body) client after) (kind ∙ isnt) parted))
+]
 
 -- it goes on, and something is lost
 pub resumed : (before lost after air : OnAir) → before ≡ air → lost ≡ record before { lost = true } → after ≡ record lost { import = after.import }
@@ -58,8 +69,21 @@ isnt_lost done why (inr (fault, refused, is)) lost = given_up_lost fault refused
 
 -- the answer depends on what is noted of the source
 pub same_answer : (failed : Bool) (one other : OnAir) → one.body ≡ other.body → one.lost ≡ other.lost → one.complete ≡ other.complete
-    → parting_answer failed one ≡ parting_answer failed other
-same_answer failed one other bodies losses ends =
-    ap (λ (body : Option Body). if wants_answer body then Some (outcome_of (failed || one.lost) one.complete body) else None) bodies
-    ∙ ap (λ (lost : Bool). if wants_answer other.body then Some (outcome_of (failed || lost) one.complete other.body) else None) losses
-    ∙ ap (λ (complete : Bool). if wants_answer other.body then Some (outcome_of (failed || other.lost) complete other.body) else None) ends
+    → one.foreign ≡ other.foreign → parting_answer failed one ≡ parting_answer failed other
+same_answer failed one other bodies losses ends kinds =
+    ap (λ (body : Option Body). parting_in one.foreign (failed || one.lost) one.complete body) bodies
+    ∙ ap (λ (lost : Bool). parting_in one.foreign (failed || lost) one.complete other.body) losses
+    ∙ ap (λ (complete : Bool). parting_in one.foreign (failed || other.lost) complete other.body) ends
+    ∙ ap (λ (foreign : Bool). parting_in foreign (failed || other.lost) other.complete other.body) kinds
+
+pub has_no_page : (one other : OnAir) (sender : Feeder) (passed : ℕ) → one ≡ other → is_foreign one.has_page one.import.input.pages.offset ≡ true
+    → passed ≡ one.import.input.pages.offset → sender ≡ one.feeder → HasNoPage sender passed other
+has_no_page one other sender passed same none passed_is from = record {
+  feeder = sym (ap (λ (air : OnAir). air.feeder) same) ∙ sym from;
+  foreign = subst (λ (air : OnAir). is_foreign air.has_page air.import.input.pages.offset ≡ true) same none;
+  passed_is = sym (ap (λ (air : OnAir). air.import.input.pages.offset) same) ∙ sym passed_is;
+}
+
+-- a source that was found not to be Ogg is told so
+pub foreign_parts : (failed : Bool) (one other : OnAir) → one ≡ record other { foreign = true } → parting_answer failed one ≡ foreign_answer other.body
+foreign_parts failed one other is = ap (λ (air : OnAir). parting_answer failed air) is

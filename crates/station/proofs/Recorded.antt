@@ -34,7 +34,7 @@ use Rattle.station_hub.specs.declared.live_hub.LiveHub.{LiveHub}
 use Rattle.station_sources.specs.SeenLaws.{run_seen, takes_end_seen, takes_step_seen}
 use Rattle.station_sources.specs.declared.air.OnAir.{OnAir}
 use Rattle.station_sources.specs.declared.air.Took.{Took}
-use Rattle.station_sources.specs.declared.air.Took.TheVariants.{Nothing, Bytes, Stepped, Ended as EndedAt}
+use Rattle.station_sources.specs.declared.air.Took.TheVariants.{Nothing, Bytes, Stepped, Foreign, Ended as EndedAt}
 use Rattle.station_sources.specs.Taking.{TakesEnd, TakesStep}
 
 -- ---- what a runner has answered
@@ -143,21 +143,23 @@ module _ {D : Type 0} (model : DiskModel D) where
       → (after : LiveProgress D) × IsLiveIn model after new × TakesStep (LiveAnswers model) Over step air.import now.import before after)
       → ((before : LiveProgress D) (offset : ℕ) (junk : Option Mend) (taken : Taken) → IsLiveIn model before old → result ≡ Ok (EndedAt offset junk taken)
       → (after : LiveProgress D) × IsLiveIn model after new × TakesEnd (LiveAnswers model) Over offset junk taken air.import now.import before after)
-      → (result ≡ Ok Bytes → new ≡ old) → (result ≡ Ok Nothing → new ≡ old)
+      → (result ≡ Ok Bytes → new ≡ old) → (result ≡ Ok Nothing → new ≡ old) → ((passed : ℕ) → result ≡ Ok (Foreign passed) → new ≡ old)
       → ((before : LiveProgress D) → IsLiveIn model before old → IfErr result (λ fault. (after : LiveProgress D) × IsLiveIn model after new
       × StopsBy (LiveAnswers model) fault before after None None))
       → RecordsLive model old new
-  took old new air now Over (Ok Nothing) steps ends bytes nothing stopped =
+  took old new air now Over (Ok Nothing) steps ends bytes nothing foreign stopped =
       subst (λ (live : LiveHub D). RecordsLive model old live) (sym (nothing refl)) (records_none model old)
-  took old new air now Over (Ok Bytes) steps ends bytes nothing stopped =
+  took old new air now Over (Ok Bytes) steps ends bytes nothing foreign stopped =
       subst (λ (live : LiveHub D). RecordsLive model old live) (sym (bytes refl)) (records_none model old)
-  took old new air now Over (Ok (Stepped step)) steps ends bytes nothing stopped = led old new (λ before is_in.
+  took old new air now Over (Ok (Foreign passed)) steps ends bytes nothing foreign stopped =
+      subst (λ (live : LiveHub D). RecordsLive model old live) (sym (foreign passed refl)) (records_none model old)
+  took old new air now Over (Ok (Stepped step)) steps ends bytes nothing foreign stopped = led old new (λ before is_in.
       let (after, reached, takes) = steps before step is_in refl in
       (after, reached, takes_step Over step air.import now.import before after takes))
-  took old new air now Over (Ok (EndedAt offset junk taken)) steps ends bytes nothing stopped = led old new (λ before is_in.
+  took old new air now Over (Ok (EndedAt offset junk taken)) steps ends bytes nothing foreign stopped = led old new (λ before is_in.
       let (after, reached, takes) = ends before offset junk taken is_in refl in
       (after, reached, takes_end Over offset junk taken air.import now.import before after takes))
-  took old new air now Over (Err fault) steps ends bytes nothing stopped = led old new (λ before is_in.
+  took old new air now Over (Err fault) steps ends bytes nothing foreign stopped = led old new (λ before is_in.
       let (after, reached, stop) = stopped before is_in in
       (after, reached, stops fault before after None None stop))
 

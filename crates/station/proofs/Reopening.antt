@@ -11,7 +11,7 @@ use Rattle.station_sources.specs.declared.air.OnAir.{OnAir}
 use Rattle.station.specs.Parting.{FeederParts}
 use Rattle.station.specs.Stepping.{FreesBy, PartsBy, reopens}
 use Rattle.station.specs.declared.stepping.Done.{Done}
-use Rattle.station.specs.declared.stepping.Done.TheVariants.{Ended, GivenUp, Reopened}
+use Rattle.station.specs.declared.stepping.Done.TheVariants.{Ended, Foreign, GivenUp, Reopened}
 
 false_true : false ≡ true → ⊥
 false_true e = cc
@@ -21,6 +21,7 @@ pub parts_if_given_up : (done : Done) (air : OnAir) (old new : Slab ClientState)
     → ((fault : RecordFault) (refused : Option Refusal) → done ≡ GivenUp fault refused → FeederParts (parting_answer true air) air old new)
     → PartsBy done air old new
 parts_if_given_up (Ended offset junk taken refused) air old new e parts = absurd (false_true e)
+parts_if_given_up (Foreign feeder passed refused) air old new e parts = absurd (false_true e)
 parts_if_given_up (GivenUp fault refused) air old new e parts = parts fault refused refl
 parts_if_given_up done air old new e parts = tt
 

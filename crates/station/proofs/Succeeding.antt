@@ -19,7 +19,7 @@ use Rattle.station.specs.Parting.{HasParted}
 use Rattle.station.specs.Stepping.{IsSucceededBy}
 use Rattle.station.specs.Succeeding.{AreOffered, HasAir, HaveTurns, IsStill, IsSucceeded, SameWait, WasOffered, is_waiting, waits}
 use Rattle.station.specs.declared.stepping.Done.{Done}
-use Rattle.station.specs.declared.stepping.Done.TheVariants.{Ended, GivenUp}
+use Rattle.station.specs.declared.stepping.Done.TheVariants.{Ended, Foreign, GivenUp}
 
 nobody_feeds : (feeder : Feeder) → Some feeder ≡ None → ⊥
 nobody_feeds feeder e = cc
@@ -164,6 +164,7 @@ still old mid new air turns is = record { next = is.next; has_air = still_has is
 pub still_by : (done : Done) (old mid new : Slab ClientState) (air : Option OnAir) → HaveTurns mid new → IsSucceededBy done old mid air
     → IsSucceededBy done old new air
 still_by (Ended offset junk taken refused) old mid new air turns is = still old mid new air turns is
+still_by (Foreign feeder passed refused) old mid new air turns is = still old mid new air turns is
 still_by (GivenUp fault refused) old mid new air turns is = still old mid new air turns is
 still_by done old mid new air turns is = tt
 

@@ -17,7 +17,7 @@ use Rattle.serve_hub.specs.Parts.{is_at_rest}
 use Rattle.serve_hub.specs.Running.{Answers, IsIn, Progress}
 use Rattle.slab.specs.Slab.{Slab}
 use Rattle.station_hub.specs.declared.live_hub.LiveHub.{LiveHub}
-use Rattle.station_sources.specs.Air.{GoesOn, HasAllTaken, IsWaiting, KeepsBytes, noted, parting_answer}
+use Rattle.station_sources.specs.Air.{GoesOn, HasAllTaken, HasNoPage, IsWaiting, KeepsBytes, foreign_answer, noted, parting_answer}
 use Rattle.station_sources.specs.Counting.{counted, with_mend, with_step, with_taken}
 use Rattle.station_sources.specs.Taking.{TakesEnd, TakesStep}
 use Rattle.station_sources.specs.declared.air.OnAir.{OnAir}
@@ -26,7 +26,7 @@ use Rattle.station.specs.Beginning.{BeginsBeside}
 use Rattle.station.specs.Parting.{FeederParts}
 use Rattle.station.specs.Succeeding.{IsSucceeded}
 use Rattle.station.specs.declared.stepping.Done.{Done}
-use Rattle.station.specs.declared.stepping.Done.TheVariants.{Bytes, Ended, Failed, Flushed, GivenUp, Lost, Reopened, Stepped}
+use Rattle.station.specs.declared.stepping.Done.TheVariants.{Bytes, Ended, Failed, Flushed, Foreign, GivenUp, Lost, Reopened, Stepped}
 
 -- ---- nothing
 -- Nothing is pending of the source: only further bytes of it, or its end, can make it go on. Or there is no source.
@@ -38,6 +38,7 @@ NothingPends (Some air) = IsWaiting air
 abbrev pub with_done : Done → Counts → Counts
 with_done (Stepped step) counts = with_step step counts
 with_done (Ended offset junk taken refused) counts = with_taken taken (with_mend junk counts)
+with_done (Foreign feeder passed refused) counts = record counts { sources_refused = counted counts.sources_refused 1 }
 with_done (Reopened answered) counts = record counts { reopenings = counted counts.reopenings 1 }
 with_done done counts = counts
 
@@ -63,6 +64,7 @@ RestsUnless refused file = is_at_rest file ≡ not (is_some refused)
 -- Once a source has left the air, what was open is ended and kept, or it is told why not.
 abbrev pub RestsBy : {D : Type 0} → Done → Option (RecorderState D) → Type 0
 RestsBy (Ended offset junk taken refused) file = RestsUnless refused file
+RestsBy (Foreign feeder passed refused) file = RestsUnless refused file
 RestsBy (GivenUp fault refused) file = RestsUnless refused file
 RestsBy done file = ⊤
 
@@ -110,27 +112,35 @@ module _ {D : Type 0} (model : DiskModel D) where
   TakesFromSource (Ended offset junk taken refused) air now old new =
       (before : Progress D) → IsIn model before old.hub → HasEnded offset junk taken air before
   TakesFromSource Bytes air now old new = HasPassedOn air now old new
+  TakesFromSource (Foreign feeder passed refused) air now old new = HasNoPage feeder passed air
   TakesFromSource done air now old new = ⊤
+
+-- The source has left the air, since its stream isn't Ogg.
+abbrev pub IsTurnedAway : OnAir → Done → Type 0
+IsTurnedAway air done = (refused : Option Refusal) × (done ≡ Foreign air.feeder air.import.input.pages.offset refused)
 
 -- It goes on in the file that was opened again, and that something of it may be lost is noted.
 abbrev pub GoesOnWithLoss : OnAir → Option OnAir → Type 0
 GoesOnWithLoss air now = (after : OnAir) × (now ≡ Some after) × (after ≡ record air { import = after.import; lost = true })
 
 -- If the source has left the air, its connection gets its last bytes. Something of the source may be lost if it was given
--- up, or if what was open of it couldn't be ended and kept.
+-- up, or if what was open of it couldn't be ended and kept. One that isn't Ogg is told so.
 abbrev pub PartsBy : Done → OnAir → Slab ClientState → Slab ClientState → Type 0
 PartsBy (Ended offset junk taken refused) air old new = FeederParts (parting_answer (is_some refused) (noted taken air)) air old new
+PartsBy (Foreign feeder passed refused) air old new = FeederParts (foreign_answer air.body) air old new
 PartsBy (GivenUp fault refused) air old new = FeederParts (parting_answer true air) air old new
 PartsBy done air old new = ⊤
 
 -- If the source has left the air, it was offered to those that waited for it, in turn, until one of them had it.
 abbrev pub IsSucceededBy : Done → Slab ClientState → Slab ClientState → Option OnAir → Type 0
 IsSucceededBy (Ended offset junk taken refused) old new air = IsSucceeded old new air
+IsSucceededBy (Foreign feeder passed refused) old new air = IsSucceeded old new air
 IsSucceededBy (GivenUp fault refused) old new air = IsSucceeded old new air
 IsSucceededBy done old new air = ⊤
 
 -- If another source has the air then, its stream has just begun, beside these serials.
 abbrev pub BeginsBy : Done → List ℕ → Skeletons → Option ImportRun → Type 0
 BeginsBy (Ended offset junk taken refused) serials skeletons run = BeginsBeside serials skeletons run
+BeginsBy (Foreign feeder passed refused) serials skeletons run = BeginsBeside serials skeletons run
 BeginsBy (GivenUp fault refused) serials skeletons run = BeginsBeside serials skeletons run
 BeginsBy done serials skeletons run = ⊤

@@ -15,12 +15,13 @@ ghost use Rattle.serve_hub.specs.Running.{IsIn, Progress};
 ghost use Rattle.station.specs.Clocks.{HasReopenedAt, KeepsClocks, clocks_of, since_after, streams_in};
 ghost use Rattle.station.specs.Beginning.{BeginsBeside, GoesOnAgain, HasReopened, run_in};
 ghost use Rattle.station_sources.specs.Air.{parting_answer};
+ghost use Rattle.station_sources.specs.Taking.{is_foreign};
 ghost use Rattle.station.specs.Parting.{FeederParts, HasParted};
 ghost use Rattle.station.specs.Passing.{ArePassed};
 ghost use Rattle.station_hub.specs.Live.{RecordsLive};
 ghost use Rattle.station_sources.specs.declared.air.OnAir.{OnAir as OnAirOf};
 ghost use Rattle.station_hub.specs.Patience.{is_due, until_due};
-ghost use Rattle.station.specs.Stepping.{BeginsBy, FreesBy, GoesOnWithLoss, HasFlushed, IsSucceededBy, NothingPends, PartsBy, RestsBy, RestsUnless, TakesFromSource, only_refused, reopens, with_done};
+ghost use Rattle.station.specs.Stepping.{BeginsBy, FreesBy, GoesOnWithLoss, HasFlushed, IsSucceededBy, IsTurnedAway, NothingPends, PartsBy, RestsBy, RestsUnless, TakesFromSource, only_refused, reopens, with_done};
 ghost use Rattle.station.specs.Succeeding.{IsSucceeded, SameWait};
 ghost use Rattle.serve_hub.specs.Showing.{Shows};
 ghost use Rattle.serve_machine.specs.Hub.{HubState};
@@ -56,6 +57,13 @@ pub enum Done {
         offset: u64,
         junk: Option<Mend>,
         taken: Taken,
+        refused: Option<Refusal>,
+    },
+    /// The source left the air, since its stream isn't Ogg: so many bytes of it were passed over, and there is no page
+    /// among them. Nothing of it was recorded. What was open couldn't be ended and kept if that was refused.
+    Foreign {
+        feeder: Feeder,
+        passed: u64,
         refused: Option<Refusal>,
     },
     /// The source was given up. What was open of it became what it becomes at its end.
@@ -100,6 +108,10 @@ impl<D: Disk + Drop> Station<D> {
         // What is recorded of a source is what import_record says of its bytes.
         ensures takes { (air : OnAirOf) → self.old.air ≡ Some air
             → TakesFromSource D.Disk result air self.new.air self.old.live self.new.live }
+        // A source that isn't Ogg leaves the air before anything else is taken of it.
+        ensures foreign { (air : OnAirOf) (machine : HubState) → self.old.air ≡ Some air → Shows D.Disk self.old.live.hub machine
+            → failed_in self.old.live.hub.file ≡ false → is_due machine.waiting self.old.waiting_since now ≡ false
+            → is_foreign air.has_page air.import.input.pages.offset ≡ true → IsTurnedAway air result }
         // A fault of the disk comes before anything of the source that follows, and is noted.
         ensures failed { failed_in self.old.live.hub.file ≡ true → reopens result ≡ true }
         ensures noted { (air : OnAirOf) (answered : AnsweredOf) → self.old.air ≡ Some air → result ≡ Done.Reopened answered
@@ -169,6 +181,9 @@ impl<D: Disk + Drop> Station<D> {
             Done::Ended { junk, taken, .. } => {
                 self.counts = self.counts.with_end(junk, taken);
             }
+            Done::Foreign { .. } => {
+                self.counts.sources_refused = counted(self.counts.sources_refused, 1);
+            }
             Done::Reopened(_) => self.counts.reopenings = counted(self.counts.reopenings, 1),
             _ => {}
         }
@@ -180,6 +195,9 @@ impl<D: Disk + Drop> Station<D> {
             → TakesFromSource D.Disk result air self.new.air self.old.live self.new.live }
         ensures parts { (air : OnAirOf) → self.old.air ≡ Some air
             → PartsBy result air self.old.clients.slots self.new.clients.slots }
+        ensures foreign { (air : OnAirOf) (machine : HubState) → self.old.air ≡ Some air → Shows D.Disk self.old.live.hub machine
+            → failed_in self.old.live.hub.file ≡ false → is_due machine.waiting self.old.waiting_since now ≡ false
+            → is_foreign air.has_page air.import.input.pages.offset ≡ true → IsTurnedAway air result }
         ensures at_rest { RestsBy result self.new.live.hub.file }
         ensures frees { FreesBy result self.old.air self.new.live.hub.file }
         ensures succeeded { IsSucceededBy result self.old.clients.slots self.new.clients.slots self.new.air }
@@ -233,6 +251,8 @@ impl<D: Disk + Drop> Station<D> {
             → TakesFromSource D.Disk result air self.new.air self.old.live self.new.live }
         ensures parts { (air : OnAirOf) → self.old.air ≡ Some air
             → PartsBy result air self.old.clients.slots self.new.clients.slots }
+        ensures foreign { (air : OnAirOf) → self.old.air ≡ Some air
+            → is_foreign air.has_page air.import.input.pages.offset ≡ true → IsTurnedAway air result }
         ensures at_rest { RestsBy result self.new.live.hub.file }
         ensures succeeded { IsSucceededBy result self.old.clients.slots self.new.clients.slots self.new.air }
         ensures begins { BeginsBy result (serials_in self.new.live.hub.file) self.old.options.skeletons (run_in self.new.air) }
@@ -252,6 +272,15 @@ impl<D: Disk + Drop> Station<D> {
             Ok(Took::Nothing) => Done::Nothing,
             Ok(Took::Bytes) => Done::Bytes,
             Ok(Took::Stepped(step)) => Done::Stepped(step),
+            Ok(Took::Foreign { passed }) => {
+                let feeder = air.feeder();
+                let refused = self.leave_the_air(false, now);
+                Done::Foreign {
+                    feeder,
+                    passed,
+                    refused,
+                }
+            }
             Ok(
                 Took::Ended {
                     offset,

@@ -125,7 +125,7 @@ module _ {D : Type 0} (model : DiskModel D) where
         (
           old,
           file_in mid,
-          record { seen = refl; pending = refl; feeder = refl; short = refl; lost = refl },
+          record { seen = refl; pending = refl; feeder = refl; short = refl; lost = refl; has_page = refl },
           tt,
           flushed flushes.reply old before mid answered,
           moved,

@@ -6,7 +6,7 @@ use crate::telling::{seconds, tell_done};
 use disk_model::Disk;
 use fault_lines::Fault;
 use import_record::RecordFault;
-use serve_actions::Log;
+use serve_actions::{Log, tell_foreign};
 use station::{After, Done, FULL, Feeder, Trouble, station_line};
 use station_files::{Seat, Stations};
 use std::io::{self, Read, Write};
@@ -234,6 +234,9 @@ impl<'a, D: Disk + Drop, R: Recorded<'a, D> + Drop> Running<'a, D, R> {
                 return Ok(false);
             }
             let done = self.recorded.after(done, &mut self.stations, self.now)?;
+            if let Done::Foreign { feeder, .. } = done {
+                self.turned_away(feeder);
+            }
             tell_done(
                 self.recorded.told(),
                 &mut self.log,
@@ -243,6 +246,16 @@ impl<'a, D: Disk + Drop, R: Recorded<'a, D> + Drop> Running<'a, D, R> {
             self.take_moves();
         }
         Ok(true)
+    }
+
+    /// The source of this feeder has left the air, since its stream isn't Ogg. Standard input is no source any more then.
+    fn turned_away(&mut self, feeder: Feeder) {
+        let address = self.address(feeder);
+        tell_foreign(self.rt, self.recorded.told(), feeder == Feeder::Input, address);
+        if feeder == Feeder::Input {
+            self.sockets.leave_input();
+            self.stations.newest_mut().input_ended(self.now);
+        }
     }
 
     /// Takes a step of what is recorded. The time is counted that it takes to commit.
@@ -263,8 +276,13 @@ impl<'a, D: Disk + Drop, R: Recorded<'a, D> + Drop> Running<'a, D, R> {
 
     /// The address of the source, if it is a connection.
     fn source(&self) -> Option<SocketAddr> {
-        match self.stations.newest().feeder() {
-            Some(Feeder::Peer(key)) => {
+        self.address(self.stations.newest().feeder()?)
+    }
+
+    /// The address of this feeder, if it is a connection.
+    fn address(&self, feeder: Feeder) -> Option<SocketAddr> {
+        match feeder {
+            Feeder::Peer(key) => {
                 let seat = Seat { station: 0, key };
                 Some(self.sockets.connections.get(&seat.token())?.address)
             }

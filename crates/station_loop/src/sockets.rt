@@ -32,6 +32,8 @@ pub struct Sockets {
     pub connections: HashMap<usize, Connection>,
     // the system tells when standard input has bytes
     watched: bool,
+    // standard input is no source any more
+    left: bool,
     /// Whether standard input may have bytes, or its end.
     pub has_input: bool,
     pub buffer: Vec<u8>,
@@ -47,6 +49,7 @@ impl Sockets {
             accepting: true,
             connections: HashMap::new(rt.alloc()),
             watched: false,
+            left: false,
             has_input: !rt.stdin().is_terminal(),
             buffer: vec![in rt.alloc(); 0; PIECE]?,
         };
@@ -73,7 +76,7 @@ impl Sockets {
         for event in &self.events {
             match event.token() {
                 Token(LISTENER) => self.accepting = true,
-                Token(INPUT) => self.has_input = true,
+                Token(INPUT) => self.has_input = !self.left,
                 Token(token) => {
                     let seat = Seat::of_token(token);
                     stations.wake(seat, event.is_readable(), event.is_writable());
@@ -94,6 +97,12 @@ impl Sockets {
         };
         self.watched = told.is_ok();
         self.has_input = !self.watched;
+    }
+
+    /// Standard input isn't read any more.
+    pub fn leave_input(&mut self) {
+        self.left = true;
+        self.has_input = false;
     }
 
     /// The next connection that waits to be accepted, if one does.

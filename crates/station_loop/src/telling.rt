@@ -29,6 +29,10 @@ pub fn tell_done<D: Disk + Drop>(
             told.taken(*offset, taken);
             told.unended(*offset, *refused);
         }
+        Done::Foreign { refused, .. } => {
+            log.source_ended(station.counts());
+            told.unended(0, *refused);
+        }
         Done::GivenUp { fault, refused } => {
             log.source_ended(station.counts());
             told.given_up(*fault);

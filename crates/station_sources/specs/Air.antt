@@ -6,9 +6,9 @@ use Rattle.import_record.specs.declared.intake.Taken.{Taken}
 use Rattle.import_record.specs.declared.reading.Step.{Step}
 use Rattle.serve_sources.specs.declared.body.Body.{Body}
 use Rattle.serve_sources.specs.declared.outcome.Outcome.{Outcome}
-use Rattle.serve_sources.specs.declared.outcome.Outcome.TheVariants.{Whole, Broken, Lost}
+use Rattle.serve_sources.specs.declared.outcome.Outcome.TheVariants.{Whole, Broken, Lost, Foreign}
 use Rattle.station_sources.specs.Faring.{HasDecoded, Look, look}
-use Rattle.station_sources.specs.Taking.{IsOver, PassesOn, loses}
+use Rattle.station_sources.specs.Taking.{IsOver, PassesOn, is_foreign, is_page, loses}
 use Rattle.station_sources.specs.declared.air.Feeder.{Feeder}
 use Rattle.station_sources.specs.declared.air.OnAir.{OnAir}
 
@@ -50,9 +50,18 @@ abbrev pub wants_answer : Option Body → Bool
 wants_answer None = false
 wants_answer (Some body) = body.framed && not body.answered
 
--- what it is answered, if it waits for that: something of it may be lost, as was noted before or is known now
+-- What a source is answered that isn't Ogg, before its end: unless it has its last answer already.
+abbrev pub foreign_answer : Option Body → Option Outcome
+foreign_answer None = None
+foreign_answer (Some body) = if body.answered then None else Some Foreign
+
+-- what it is answered otherwise, if it waits for that: something of it may be lost, as was noted before or is known now
+abbrev pub parting_in : Bool → Bool → Bool → Option Body → Option Outcome
+parting_in true lost complete body = foreign_answer body
+parting_in false lost complete body = if wants_answer body then Some (outcome_of lost complete body) else None
+
 abbrev pub parting_answer : Bool → OnAir → Option Outcome
-parting_answer lost air = if wants_answer air.body then Some (outcome_of (lost || air.lost) air.complete air.body) else None
+parting_answer lost air = parting_in air.foreign (lost || air.lost) air.complete air.body
 
 -- packets that were refused are lost
 abbrev pub noted : Taken → OnAir → OnAir
@@ -75,6 +84,13 @@ pub record IsShort (count : ℕ) (old new : OnAir) : Type 0 where
   pub ended : new.ended ≡ true
   pub import : new.import ≡ old.import
   pub body : new.body ≡ old.body
+
+-- ---- a stream that isn't Ogg
+-- No page was found in the first bytes of its stream, which were as many as these or more: it isn't Ogg. This one sends it.
+pub record HasNoPage (sender : Feeder) (passed : ℕ) (air : OnAir) : Type 0 where
+  pub feeder : air.feeder ≡ sender
+  pub foreign : is_foreign air.has_page air.import.input.pages.offset ≡ true
+  pub passed_is : air.import.input.pages.offset ≡ passed
 
 -- ---- what goes on to the pages
 abbrev pub look_of : OnAir → Look
@@ -100,3 +116,4 @@ pub record KeepsBytes (step : Step) (old new : OnAir) : Type 0 where
   pub feeder : new.feeder ≡ old.feeder
   pub short : new.short ≡ old.short
   pub lost : new.lost ≡ (loses step || old.lost)
+  pub has_page : new.has_page ≡ (is_page step || old.has_page)

@@ -38,6 +38,7 @@ pub record HasBegun (sender : Feeder) (framing : Option Body) (options : ChangeO
   pub looks : look_of air ≡ look framing 0 0 false false false
   pub none : drop air.at air.pending.items ≡ []
   pub noted : (air.short ≡ false) × (air.lost ≡ false)
+  pub searched : (air.has_page ≡ false) × (air.foreign ≡ false)
   pub is_new : IsNew options serials air.import
 
 -- Its stream goes on in a file whose last link has these streams, and all of whose streams have these serials, once these

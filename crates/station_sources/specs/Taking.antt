@@ -1,5 +1,5 @@
 -- What is taken of the stream of a source, as import_record takes it. Ours.
-use Rattle.std.specs.Prelude.{◌≡◌, ◌⊎◌, ◌<◌, ◌≤◌, ℕ, Bool, true, false, Option, None, is_some, List, [], length, take}
+use Rattle.std.specs.Prelude.{◌≡◌, ◌⊎◌, ◌<◌, ◌≤◌, ◌&&◌, ℕ, Bool, true, false, not, nat_le, Option, None, is_some, List, [], length, take}
 use Rattle.feed_records.specs.declared.item.Record.{Record}
 use Rattle.feed_replies.specs.declared.reply.Reply.{Reply}
 use Rattle.import_mend.specs.declared.mend.Mend.{Mend}
@@ -30,6 +30,20 @@ IsOver ended starved decoded = (ended ≡ true) × (starved ≡ true) × (decode
 abbrev pub loses : Step → Bool
 loses (Page offset junk taken) = is_some taken.answered.refused
 loses step = false
+
+-- a page of the stream was taken
+abbrev pub is_page : Step → Bool
+is_page (Page offset junk taken) = true
+is_page step = false
+
+-- ---- a stream that isn't Ogg
+-- the first page of a stream begins before so many bytes
+abbrev pub most_before : ℕ
+most_before = 65536
+
+-- So many bytes of a stream were passed over, and no page was taken before: it isn't Ogg.
+abbrev pub is_foreign : Bool → ℕ → Bool
+is_foreign has_page passed = not has_page && nat_le most_before passed
 
 module _ {S : Type 0} (answers : S → Record → Reply → List ℕ → S → Type 0) where
   -- A step was taken of what had come to the stream. It needed no more bytes, or no more come.

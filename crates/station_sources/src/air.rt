@@ -1,7 +1,7 @@
 //! The source that is on the air: its bytes, as they come, and what is recorded of them.
 ghost use Rattle.std.specs.Prelude.{◌≡◌, ◌≢◌, ◌⊎◌, ◌+◌, ◌-◌, ◌≤◌, ◌<◌, ◌++◌, ◌||◌, ℕ, [], Err, IfErr, IfOk, None, Ok, OnErr, OnOk, Option, drop, false, is_some, length, slice_range, true, vec_capacity, vec_len};
 ghost use Rattle.station_sources.specs.Faring.{HasDecoded, look, stopped};
-ghost use Rattle.station_sources.specs.Taking.{HasEndedBy, IsOver, PassesOn, TakesEnd, TakesStep, input_of, loses};
+ghost use Rattle.station_sources.specs.Taking.{HasEndedBy, IsOver, PassesOn, TakesEnd, TakesStep, input_of, is_foreign, is_page, loses};
 ghost use Rattle.import_mend.specs.declared.mend.Mend.{Mend as MendOf};
 ghost use Rattle.import_record.specs.Pushing.{IsStepped};
 ghost use Rattle.import_record.specs.Steps.{StopsBy};
@@ -51,6 +51,11 @@ pub enum Took {
     Bytes,
     /// A step was taken of its stream.
     Stepped(Step),
+    /// Nothing, since the stream isn't Ogg: so many bytes of it were passed over, 64 KiB or more, and there is no page
+    /// among them.
+    Foreign {
+        passed: u64,
+    },
     /// The stream has ended at this offset, and so did what was recorded of it. The last bytes that are of no page are
     /// told.
     Ended {
@@ -81,6 +86,10 @@ pub struct OnAir {
     pub(crate) short: bool,
     // something that came isn't recorded
     pub(crate) lost: bool,
+    // a page of the stream was taken
+    pub(crate) has_page: bool,
+    // no page was found in its first 64 KiB
+    pub(crate) foreign: bool,
     ghost within: { at + decoded ≤ vec_len pending },
 }
 
@@ -97,7 +106,8 @@ impl OnAir {
         ensures ok { OnOk result (drop self.new.at self.new.pending.items ≡ drop self.old.at self.old.pending.items ++ bytes.now) }
         ensures err { OnErr result (drop self.new.at self.new.pending.items ≡ drop self.old.at self.old.pending.items) }
         ensures full { OnErr result (vec_capacity self.old.pending < vec_len self.old.pending - self.old.at + length bytes.now) }
-        ensures stays { (self.new.feeder ≡ self.old.feeder) × (self.new.short ≡ self.old.short) × (self.new.lost ≡ self.old.lost) × (self.new.complete ≡ self.old.complete) }
+        ensures stays { (self.new.feeder ≡ self.old.feeder) × (self.new.short ≡ self.old.short) × (self.new.lost ≡ self.old.lost) × (self.new.complete ≡ self.old.complete)
+            × (self.new.has_page ≡ self.old.has_page) × (self.new.foreign ≡ self.old.foreign) }
         // What has come is looked at again, with these bytes.
         ensures looks { self.new.starved ≡ false }
         ensures same { (self.new.import ≡ self.old.import) × (self.new.body ≡ self.old.body) }
@@ -152,7 +162,14 @@ impl OnAir {
             ≡ look self.old.body (self.old.at + count) (self.old.decoded - count) self.old.starved self.old.ended self.old.complete)
             × (self.new.pending ≡ self.old.pending))) }
         ensures stays { result ≡ Ok Took.Bytes
-            → (self.new.feeder ≡ self.old.feeder) × (self.new.short ≡ self.old.short) × (self.new.lost ≡ self.old.lost) }
+            → (self.new.feeder ≡ self.old.feeder) × (self.new.short ≡ self.old.short) × (self.new.lost ≡ self.old.lost)
+            × (self.new.has_page ≡ self.old.has_page) }
+        // A stream in whose first 64 KiB there is no page isn't Ogg: that is found before anything else, and nothing is done.
+        ensures foreign { (passed : ℕ) → result ≡ Ok (Took.Foreign passed)
+            → (is_foreign self.old.has_page self.old.import.input.pages.offset ≡ true) × (passed ≡ self.old.import.input.pages.offset)
+            × (runner.new ≡ runner.old) × (self.new ≡ record self.old { foreign = true }) }
+        ensures each { is_foreign self.old.has_page self.old.import.input.pages.offset ≡ true
+            → result ≡ Ok (Took.Foreign self.old.import.input.pages.offset) }
         // It does nothing only if more bytes must come.
         ensures nothing { result ≡ Ok Took.Nothing → (runner.new ≡ runner.old) × (self.new ≡ self.old) }
         ensures prompt { result ≡ Ok Took.Nothing → (self.old.ended ≡ false) × (self.old.starved ≡ true) × (self.old.decoded ≡ 0)
@@ -165,13 +182,19 @@ impl OnAir {
             → (look self.new.body self.new.at self.new.decoded self.new.starved self.new.ended self.new.complete
             ≡ look self.old.body self.old.at self.old.decoded self.old.starved self.old.ended self.old.complete)
             × (self.new.pending ≡ self.old.pending) × (self.new.short ≡ self.old.short) × (self.new.feeder ≡ self.old.feeder)
-            × (self.new.lost ≡ (loses step || self.old.lost)) }
+            × (self.new.lost ≡ (loses step || self.old.lost)) × (self.new.has_page ≡ (is_page step || self.old.has_page)) }
         ensures lost { (offset : ℕ) (junk : Option MendOf) (taken : TakenOf) → result ≡ Ok (Took.Ended offset junk taken)
             → self.new.lost ≡ (is_some taken.answered.refused || self.old.lost) }
         ensures same { (offset : ℕ) (junk : Option MendOf) (taken : TakenOf) → result ≡ Ok (Took.Ended offset junk taken)
-            → (self.new.feeder ≡ self.old.feeder) × (self.new.body ≡ self.old.body) × (self.new.complete ≡ self.old.complete) }
-        ensures err { OnErr result ((self.new.feeder ≡ self.old.feeder) × (self.new.body ≡ self.old.body)) }
+            → (self.new.feeder ≡ self.old.feeder) × (self.new.body ≡ self.old.body) × (self.new.complete ≡ self.old.complete)
+            × (self.new.foreign ≡ self.old.foreign) }
+        ensures err { OnErr result ((self.new.feeder ≡ self.old.feeder) × (self.new.body ≡ self.old.body) × (self.new.foreign ≡ self.old.foreign)) }
     {
+        if self.is_foreign() {
+            self.foreign = true;
+            let passed = self.import.offset();
+            return Ok(Took::Foreign { passed });
+        }
         if !self.import.waits() {
             return self.take_page(runner);
         }
@@ -199,7 +222,7 @@ impl OnAir {
             (look self.new.body self.new.at self.new.decoded self.new.starved self.new.ended self.new.complete) }
         ensures kept { (self.new.pending ≡ self.old.pending) ⊎ ((self.new.pending.items ≡ []) × (self.new.starved ≡ true) × (self.new.ended ≡ true)) }
         ensures stays { (self.new.lost ≡ self.old.lost) × (self.new.short ≡ self.old.short) × (self.new.feeder ≡ self.old.feeder)
-            × (self.new.import ≡ self.old.import) }
+            × (self.new.import ≡ self.old.import) × (self.new.has_page ≡ self.old.has_page) }
     {
         let bytes = &self.pending[self.at..];
         let Some(body) = &mut self.body else {
@@ -231,7 +254,7 @@ impl OnAir {
             ≡ stopped (look self.old.body self.old.at self.old.decoded self.old.starved self.old.ended self.old.complete) }
         ensures none { self.new.pending.items ≡ [] }
         ensures stays { (self.new.lost ≡ self.old.lost) × (self.new.short ≡ self.old.short) × (self.new.feeder ≡ self.old.feeder)
-            × (self.new.import ≡ self.old.import) }
+            × (self.new.import ≡ self.old.import) × (self.new.has_page ≡ self.old.has_page) }
     {
         self.pending.clear();
         self.at = 0;
@@ -250,7 +273,7 @@ impl OnAir {
             × (self.new.pending ≡ self.old.pending))) }
         ensures fault { OnErr result (result ≡ Err RecordFault.Read) }
         ensures stays { (self.new.feeder ≡ self.old.feeder) × (self.new.body ≡ self.old.body) × (self.new.short ≡ self.old.short)
-            × (self.new.lost ≡ self.old.lost) }
+            × (self.new.lost ≡ self.old.lost) × (self.new.has_page ≡ self.old.has_page) × (self.new.foreign ≡ self.old.foreign) }
     {
         let mut bytes = &self.pending[self.at..self.at + self.decoded];
         match self.import.read_once(&mut bytes) {
@@ -275,10 +298,13 @@ impl OnAir {
         ensures stops { (before : T.State) → T.is_in before runner.old → IfErr result (λ fault. (after : T.State) × T.is_in after runner.new
             × StopsBy T.answers fault before after None None) }
         ensures other { (result ≢ Ok Took.Bytes) × (result ≢ Ok Took.Nothing) }
+        ensures found { (passed : ℕ) → result ≢ Ok (Took.Foreign passed) }
         ensures lost { (offset : ℕ) (junk : Option MendOf) (taken : TakenOf) → result ≡ Ok (Took.Ended offset junk taken)
             → self.new.lost ≡ (is_some taken.answered.refused || self.old.lost) }
         ensures noted { (step : StepOf) → result ≡ Ok (Took.Stepped step) → self.new.lost ≡ (loses step || self.old.lost) }
-        ensures stays { (self.new.feeder ≡ self.old.feeder) × (self.new.body ≡ self.old.body) × (self.new.complete ≡ self.old.complete) }
+        ensures stays { (self.new.feeder ≡ self.old.feeder) × (self.new.body ≡ self.old.body) × (self.new.complete ≡ self.old.complete)
+            × (self.new.foreign ≡ self.old.foreign) }
+        ensures pages { (step : StepOf) → result ≡ Ok (Took.Stepped step) → self.new.has_page ≡ (is_page step || self.old.has_page) }
         ensures kept { (look self.new.body self.new.at self.new.decoded self.new.starved self.new.ended self.new.complete
             ≡ look self.old.body self.old.at self.old.decoded self.old.starved self.old.ended self.old.complete)
             × (self.new.pending ≡ self.old.pending) × (self.new.short ≡ self.old.short) }
@@ -296,6 +322,7 @@ impl OnAir {
             }
             Ok(step) => {
                 if let Step::Page { taken, .. } = &step {
+                    self.has_page = true;
                     self.note(taken);
                 }
                 Ok(Took::Stepped(step))

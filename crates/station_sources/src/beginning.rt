@@ -39,6 +39,8 @@ impl OnAir {
             complete: false,
             short: false,
             lost: false,
+            has_page: false,
+            foreign: false,
         })
     }
 

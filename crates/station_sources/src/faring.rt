@@ -1,10 +1,14 @@
 //! How a source that is on the air fares.
-ghost use Rattle.std.specs.Prelude.{◌≡◌, ◌⊎◌, false, length, true};
-ghost use Rattle.station_sources.specs.Air.{HoldsMore, IsShort, IsStarved, noted, outcome_of, parting_answer, wants_answer};
+ghost use Rattle.std.specs.Prelude.{◌≡◌, ◌⊎◌, Some, false, length, true};
+ghost use Rattle.station_sources.specs.Air.{HoldsMore, IsShort, IsStarved, foreign_answer, noted, outcome_of, parting_answer, wants_answer};
+ghost use Rattle.station_sources.specs.Taking.{is_foreign};
 
 use crate::air::OnAir;
 use import_record::Taken;
 use serve_sources::Outcome;
+
+/// The first page of a stream of Ogg begins before so many bytes of it.
+const MOST_BEFORE: u64 = 65_536;
 
 impl OnAir {
     /// Whether the peer waits for an answer once its body has ended.
@@ -38,10 +42,31 @@ impl OnAir {
         }
     }
 
-    /// What the peer is answered once its body has ended, if it waits for that. Something of it may be lost.
+    /// Whether no page was found in the first 64 KiB of the stream: it isn't Ogg.
+    pub(crate) fn is_foreign(&self) -> bool
+        ensures { result ≡ is_foreign self.now.has_page self.now.import.input.pages.offset }
+    {
+        !self.has_page && MOST_BEFORE <= self.import.offset()
+    }
+
+    /// What the peer is answered whose stream isn't Ogg, unless it has its last answer.
+    fn foreign_answer(&self) -> Option<Outcome>
+        ensures { result ≡ foreign_answer self.now.body }
+    {
+        match &self.body {
+            Some(body) if !body.is_answered() => Some(Outcome::Foreign),
+            _ => None,
+        }
+    }
+
+    /// What the peer is answered that leaves the air: if its stream isn't Ogg, that; else once its body has ended, if it
+    /// waits for that. Something of it may be lost.
     pub fn answer(&self, lost: bool) -> Option<Outcome>
         ensures { result ≡ parting_answer lost self.now }
     {
+        if self.foreign {
+            return self.foreign_answer();
+        }
         if !self.wants_answer() {
             return None;
         }

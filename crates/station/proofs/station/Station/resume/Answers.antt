@@ -15,14 +15,14 @@ returns-in-Err-clause-parts g c air fault refused is apart key client feeder fou
     let now = c.resume.new.self in
     let same = resumed c.in-Some.air c.lose.new.self now air (same_air c.in-Some.air air (sym c.in-Some.is ∙ is)) c.lose.ensures c.resume.ensures.same in
     let (after, left, parted) = c.give_up.ensures.parts now refl key client (ap (λ (one : OnAir). one.feeder) same ∙ feeder) found feeding in
-    (after, left, lost_answer now air client after (ap (λ (one : OnAir). one.body) same) parted)
+    (after, left, lost_answer now air client after (ap (λ (one : OnAir). one.body) same) (ap (λ (one : OnAir). one.foreign) same) parted)
 
 pub returns-in-Err-resumed-clause-parts : goal.returns-in-Err-resumed-clause-parts
 returns-in-Err-resumed-clause-parts g c air fault refused is apart key client feeder found feeding =
     let now = c.resume.new.self in
     let same = resumed c.in-Some.air c.lose.new.self now air (same_air c.in-Some.air air (sym c.in-Some.is ∙ is)) c.lose.ensures c.resume.ensures.same in
     let (after, left, parted) = c.give_up-in-Err-resumed.ensures.parts now refl key client (ap (λ (one : OnAir). one.feeder) same ∙ feeder) found feeding in
-    (after, left, lost_answer now air client after (ap (λ (one : OnAir). one.body) same) parted)
+    (after, left, lost_answer now air client after (ap (λ (one : OnAir). one.body) same) (ap (λ (one : OnAir). one.foreign) same) parted)
 
 pub returns-in-Ok-resumed-clause-noted : goal.returns-in-Ok-resumed-clause-noted
 returns-in-Ok-resumed-clause-noted g c air answered is done =

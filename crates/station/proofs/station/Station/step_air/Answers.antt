@@ -1,4 +1,4 @@
-use Rattle.std.proofs.Common.{◌≡◌, Option, Result, Ok, is_some, refl, sym, ◌∙◌, ap, subst}
+use Rattle.std.proofs.Common.{◌≡◌, Option, Result, Ok, is_some, true, refl, sym, ◌∙◌, ap, subst}
 use Rattle.import_record.specs.declared.fault.RecordFault.{RecordFault}
 use Rattle.serve_hub.specs.Running.{Answers}
 use Rattle.serve_sources.specs.declared.outcome.Outcome.{Outcome}
@@ -7,7 +7,7 @@ use Rattle.station_sources.specs.Taking.{TakesEnd, TakesStep}
 use Rattle.station_sources.specs.declared.air.OnAir.{OnAir}
 use Rattle.station_sources.specs.declared.air.Took.{Took}
 use Rattle.station.specs.Parting.{HasParted}
-use Rattle.station.proofs.Leaving.{lost_answer, same_air, same_answer}
+use Rattle.station.proofs.Leaving.{foreign_parts, has_no_page, lost_answer, same_air, same_answer}
 use Rattle.station.proofs.Reopening.{parts_given}
 use Rattle.station_hub.specs.LiveLaws.{is_live_in, records_then}
 use Rattle.station_hub.specs.LiveRunning.{live_in}
@@ -30,12 +30,12 @@ returns-in-Ok-Stepped-clause-takes g c air is before is_in =
     let stepped = c.in-Ok-Stepped.is ∙ ap took c.in-Ok-Stepped.field-0-is in
     let live = c.args.self.now.live in
     let (after, in_after, takes) = c.step.ensures.steps (live_in before live) c.in-Ok-Stepped.step (is_live_in g.D.Disk before live is_in) stepped in
-    let (seen, pending, short, feeder, lost) = c.step.ensures.kept c.in-Ok-Stepped.step stepped in
+    let (seen, pending, short, feeder, lost, has_page) = c.step.ensures.kept c.in-Ok-Stepped.step stepped in
     record {
       source = new;
       after = after.hub;
       on_air = refl;
-      keeps = subst (λ (one : OnAir). KeepsBytes c.in-Ok-Stepped.step one new) same (record { seen = seen; pending = pending; feeder = feeder; short = short; lost = lost });
+      keeps = subst (λ (one : OnAir). KeepsBytes c.in-Ok-Stepped.step one new) same (record { seen = seen; pending = pending; feeder = feeder; short = short; lost = lost; has_page = has_page });
       reached = in_after.hub;
       takes = subst (λ (one : OnAir). TakesStep (Answers g.D.Disk) (HasAllTaken one) c.in-Ok-Stepped.step one.import new.import before after.hub) same
           (hub_stepped g.D.Disk (HasAllTaken c.in-Some.air) c.in-Ok-Stepped.step c.in-Some.air.import new.import (live_in before live) after takes);
@@ -65,12 +65,12 @@ returns-in-Ok-Ended-clause-parts g c air is key client feeder found feeding =
     let taken = c.in-Ok-Ended.taken in
     let ended = c.in-Ok-Ended.is ∙ ap took c.in-Ok-Ended.field-0-is in
     let stays = c.step.ensures.same c.in-Ok-Ended.offset c.in-Ok-Ended.junk taken ended in
-    let (after, left, parted) = c.leave_the_air-refused.ensures.parts new refl key client (stays.0 ∙ ap (λ (one : OnAir). one.feeder) same ∙ feeder) found feeding in (
+    let (after, left, parted) = c.leave_the_air-refused-in-Ok-Ended.ensures.parts new refl key client (stays.0 ∙ ap (λ (one : OnAir). one.feeder) same ∙ feeder) found feeding in (
       after,
       left,
       subst (λ (answer : Option Outcome). HasParted answer client after)
-          (same_answer (is_some c.leave_the_air-refused.result) new (noted taken air) (stays.1 ∙ ap (λ (one : OnAir). one.body) same)
-          (c.step.ensures.lost c.in-Ok-Ended.offset c.in-Ok-Ended.junk taken ended ∙ ap (λ (one : OnAir). (noted taken one).lost) same) (stays.2 ∙ ap (λ (one : OnAir). one.complete) same)) parted,
+          (same_answer (is_some c.leave_the_air-refused-in-Ok-Ended.result) new (noted taken air) (stays.1 ∙ ap (λ (one : OnAir). one.body) same)
+          (c.step.ensures.lost c.in-Ok-Ended.offset c.in-Ok-Ended.junk taken ended ∙ ap (λ (one : OnAir). (noted taken one).lost) same) (stays.2 ∙ ap (λ (one : OnAir). one.complete) same) (stays.3 ∙ ap (λ (one : OnAir). one.foreign) same)) parted,
     )
 
 pub returns-in-Err-clause-parts : goal.returns-in-Err-clause-parts
@@ -81,33 +81,56 @@ returns-in-Err-clause-parts g c air is =
     let (refused, done, rests) = c.give_up.ensures.done in
     parts_given c.give_up.result _ refused air c.args.self.now.clients.slots c.give_up.new.self.clients.slots done (λ key client feeder found feeding.
     let (after, left, parted) = c.give_up.ensures.parts new refl key client (stays.0 ∙ ap (λ (one : OnAir). one.feeder) same ∙ feeder) found feeding in
-    (after, left, lost_answer new air client after (stays.1 ∙ ap (λ (one : OnAir). one.body) same) parted))
+    (after, left, lost_answer new air client after (stays.1 ∙ ap (λ (one : OnAir). one.body) same) (stays.2 ∙ ap (λ (one : OnAir). one.foreign) same) parted))
 
 pub returns-in-Ok-Nothing-clause-records : goal.returns-in-Ok-Nothing-clause-records
 returns-in-Ok-Nothing-clause-records g c =
     took_led g.D.Disk c.args.self.now.live c.step.new.runner c.in-Some.air c.step.new.self _ c.step.result c.step.ensures.steps c.step.ensures.ends
-    (λ e. (c.step.ensures.bytes e).0) (λ e. (c.step.ensures.nothing e).0) c.step.ensures.stops
+    (λ e. (c.step.ensures.bytes e).0) (λ e. (c.step.ensures.nothing e).0) (λ passed e. (c.step.ensures.foreign passed e).2) c.step.ensures.stops
 
 pub returns-in-Ok-Bytes-clause-records : goal.returns-in-Ok-Bytes-clause-records
 returns-in-Ok-Bytes-clause-records g c =
     took_led g.D.Disk c.args.self.now.live c.step.new.runner c.in-Some.air c.step.new.self _ c.step.result c.step.ensures.steps c.step.ensures.ends
-    (λ e. (c.step.ensures.bytes e).0) (λ e. (c.step.ensures.nothing e).0) c.step.ensures.stops
+    (λ e. (c.step.ensures.bytes e).0) (λ e. (c.step.ensures.nothing e).0) (λ passed e. (c.step.ensures.foreign passed e).2) c.step.ensures.stops
 
 pub returns-in-Ok-Stepped-clause-records : goal.returns-in-Ok-Stepped-clause-records
 returns-in-Ok-Stepped-clause-records g c =
     took_led g.D.Disk c.args.self.now.live c.step.new.runner c.in-Some.air c.step.new.self _ c.step.result c.step.ensures.steps c.step.ensures.ends
-    (λ e. (c.step.ensures.bytes e).0) (λ e. (c.step.ensures.nothing e).0) c.step.ensures.stops
+    (λ e. (c.step.ensures.bytes e).0) (λ e. (c.step.ensures.nothing e).0) (λ passed e. (c.step.ensures.foreign passed e).2) c.step.ensures.stops
 
 pub returns-in-Ok-Ended-clause-records : goal.returns-in-Ok-Ended-clause-records
 returns-in-Ok-Ended-clause-records g c =
-    records_then g.D.Disk c.args.self.now.live c.step.new.runner c.leave_the_air-refused.new.self.live
+    records_then g.D.Disk c.args.self.now.live c.step.new.runner c.leave_the_air-refused-in-Ok-Ended.new.self.live
     (took_led g.D.Disk c.args.self.now.live c.step.new.runner c.in-Some.air c.step.new.self _ c.step.result c.step.ensures.steps c.step.ensures.ends
-    (λ e. (c.step.ensures.bytes e).0) (λ e. (c.step.ensures.nothing e).0) c.step.ensures.stops)
-    c.leave_the_air-refused.ensures.records
+    (λ e. (c.step.ensures.bytes e).0) (λ e. (c.step.ensures.nothing e).0) (λ passed e. (c.step.ensures.foreign passed e).2) c.step.ensures.stops)
+    c.leave_the_air-refused-in-Ok-Ended.ensures.records
 
 pub returns-in-Err-clause-records : goal.returns-in-Err-clause-records
 returns-in-Err-clause-records g c =
     records_then g.D.Disk c.args.self.now.live c.step.new.runner c.give_up.new.self.live
     (took_led g.D.Disk c.args.self.now.live c.step.new.runner c.in-Some.air c.step.new.self _ c.step.result c.step.ensures.steps c.step.ensures.ends
-    (λ e. (c.step.ensures.bytes e).0) (λ e. (c.step.ensures.nothing e).0) c.step.ensures.stops)
+    (λ e. (c.step.ensures.bytes e).0) (λ e. (c.step.ensures.nothing e).0) (λ passed e. (c.step.ensures.foreign passed e).2) c.step.ensures.stops)
     c.give_up.ensures.records
+
+-- ---- a stream that isn't Ogg
+pub returns-in-Ok-Foreign-clause-takes : goal.returns-in-Ok-Foreign-clause-takes
+returns-in-Ok-Foreign-clause-takes g c air is =
+    let same : c.in-Some.air ≡ air = same_air c.in-Some.air air (sym c.in-Some.is ∙ is) in
+    let (none, passed, stays, marked) = c.step.ensures.foreign c.in-Ok-Foreign.passed (c.in-Ok-Foreign.is ∙ ap took c.in-Ok-Foreign.field-0-is) in
+    has_no_page c.in-Some.air air c.feeder-feeder.result c.in-Ok-Foreign.passed same none passed (c.feeder-feeder.ensures ∙ ap (λ (one : OnAir). one.feeder) marked)
+
+pub returns-in-Ok-Foreign-clause-parts : goal.returns-in-Ok-Foreign-clause-parts
+returns-in-Ok-Foreign-clause-parts g c air is key client feeder found feeding =
+    let same : c.in-Some.air ≡ air = same_air c.in-Some.air air (sym c.in-Some.is ∙ is) in
+    let new = c.step.new.self in
+    let (none, passed, stays, marked) = c.step.ensures.foreign c.in-Ok-Foreign.passed (c.in-Ok-Foreign.is ∙ ap took c.in-Ok-Foreign.field-0-is) in
+    let becomes = marked ∙ ap (λ (one : OnAir). record one { foreign = true }) same in
+    let (after, left, parted) = c.leave_the_air-refused.ensures.parts new refl key client (ap (λ (one : OnAir). one.feeder) becomes ∙ feeder) found feeding in
+    (after, left, subst (λ (answer : Option Outcome). HasParted answer client after) (foreign_parts (is_some c.leave_the_air-refused.result) new air becomes) parted)
+
+pub returns-in-Ok-Foreign-clause-records : goal.returns-in-Ok-Foreign-clause-records
+returns-in-Ok-Foreign-clause-records g c =
+    records_then g.D.Disk c.args.self.now.live c.step.new.runner c.leave_the_air-refused.new.self.live
+    (took_led g.D.Disk c.args.self.now.live c.step.new.runner c.in-Some.air c.step.new.self _ c.step.result c.step.ensures.steps c.step.ensures.ends
+    (λ e. (c.step.ensures.bytes e).0) (λ e. (c.step.ensures.nothing e).0) (λ passed e. (c.step.ensures.foreign passed e).2) c.step.ensures.stops)
+    c.leave_the_air-refused.ensures.records
