@@ -64,11 +64,10 @@ fn file_station(
     let asked = asked_of(rt, options)?;
     let hub = hear_file(rt, options.path, options.listeners as usize)?;
     let station = station_over(rt, hub, asked)?;
-    let told = Told::new(rt, false, station.hub().end());
-    let recorded = OneFile { told };
-    let (ran, hub, _) = run_at(rt, station, recorded, address, start, options.log)?;
+    let keeper = Keeper::new(rt, "", Told::new(rt, false, station.hub().end()));
+    let ended = run_at(rt, station, keeper, OneFile, address, start, options.log)?;
     // The connections are gone.
-    close_hub(hub, ran)
+    close_hub(ended.hub, ended.ran)
 }
 
 /// The same over a folder.
@@ -83,56 +82,57 @@ fn folder_station(
     let folder = folder.as_str();
     let _lock = lock_folder(rt, folder)?;
     let files = granted(SystemFolder::at(rt.alloc(), rt, ArchiveNames, folder))?;
-    let keeper = Keeper::new(rt, folder, Told::new(rt, false, 0));
+    let mut keeper = Keeper::new(rt, folder, Told::new(rt, false, 0));
     let readers = SystemReaders { rt, folder };
     let rules = options.filing.rules(1024);
-    let opened = open_folder(rt, files, keeper, readers, rules, asked.most)?;
-    let (hub, recorded) = opened;
+    let (hub, recorded) = open_folder(rt, files, &mut keeper, readers, rules, asked.most)?;
     let station = station_over(rt, hub, asked)?;
-    let (ran, hub, recorded) = run_at(rt, station, recorded, address, start, options.log)?;
-    ran?;
-    recorded.close(hub, options.seal)
+    let ended = run_at(rt, station, keeper, recorded, address, start, options.log)?;
+    ended.ran?;
+    let mut keeper = ended.keeper;
+    ended.recorded.close(ended.hub, options.seal, &mut keeper)
 }
 
 /// Opens a folder: its newest file is recorded into, or the next one.
-fn open_folder<'a, D: Disk + Drop, F: Folder<File = D> + Drop, R: Readers<D> + Drop>(
-    rt: &'a HostRuntime,
+fn open_folder<D: Disk + Drop, F: Folder<File = D> + Drop, R: Readers<D> + Drop>(
+    rt: &HostRuntime,
     folder: F,
-    keeper: Keeper<'a>,
+    keeper: &mut Keeper<'_>,
     readers: R,
     rules: Rules,
     most: usize,
-) -> Result<(Hub<D>, Files<'a, F, R>), Fault>
+) -> Result<(Hub<D>, Files<F, R>), Fault>
     requires { F.is_honest folder → AllKept (F.names folder) (F.file folder) }
 {
-    let mut keeper = keeper;
-    match Filed::open(rt.alloc(), folder, rules, most, now(rt), &mut keeper) {
-        Ok((filed, hub)) => {
-            let recorded = Files {
-                rt,
-                keeper,
-                filed,
-                readers,
-            };
-            Ok((hub, recorded))
-        }
+    match Filed::open(rt.alloc(), folder, rules, most, now(rt), keeper) {
+        Ok((filed, hub)) => Ok((hub, Files { filed, readers })),
         Err(fault) => Err(fault_of(fault)),
     }
 }
 
-/// Has the station listen to the address, and runs it until a fault, or until it has come to its end. It returns how that
-/// ended, the hub, and what it was recorded into.
-fn run_at<'a, D: Disk + Drop, R: Recorded<'a, D> + Drop>(
+/// A station that has come to its end: how, its hub, and what it was recorded into.
+#[derive(Drop)]
+struct Finished<'a, D: Disk + Drop, R: Drop> {
+    ran: Result<(), Fault>,
+    hub: Hub<D>,
+    keeper: Keeper<'a>,
+    recorded: R,
+}
+
+/// Has the station listen to the address, and runs it until a fault, or until it has come to its end.
+fn run_at<'a, D: Disk + Drop, R: Recorded<D> + Drop>(
     rt: &'a HostRuntime,
     station: Station<D>,
+    keeper: Keeper<'a>,
     recorded: R,
     address: SocketAddr,
     start: Instant,
     log: bool,
-) -> Result<(Result<(), Fault>, Hub<D>, R), Fault> {
+) -> Result<Finished<'a, D, R>, Fault> {
     let sockets = listen(rt, address)?;
     let mut running = Running {
         rt,
+        keeper,
         recorded,
         log: Log::new(rt.alloc(), log, station.counts()),
         stations: Stations::new(rt.alloc(), station),
@@ -143,10 +143,16 @@ fn run_at<'a, D: Disk + Drop, R: Recorded<'a, D> + Drop>(
     let ran = running.run_to_end();
     let Running {
         stations,
+        keeper,
         recorded,
         ..
     } = running;
-    Ok((ran, stations.into_newest().into_hub(), recorded))
+    Ok(Finished {
+        ran,
+        hub: stations.into_newest().into_hub(),
+        keeper,
+        recorded,
+    })
 }
 
 /// Listens to the address, and tells where the station can be reached.

@@ -1,116 +1,121 @@
 //! What a station is recorded into: a file, or the files of a folder.
 
-use archive_actions::{Keeper, now};
 use archive_folder::{FileName, Folder, SystemFile};
 use archive_names::Kind;
-use archive_record::{ArchiveFault, text_of};
+use archive_record::{ArchiveFault, Beside, text_of};
 use disk_model::{Disk, FileDisk};
 use fault_lines::Fault;
 use gate_file::OpenFault;
 use import_record::Answered;
-use record_actions::Told;
 use serve_hub::Hub;
 use station::Done;
 use station_files::{Clocks, Filed, Readers, Stations};
 use std::fs::File;
 
-/// What a station is recorded into, and what is told of that.
-pub trait Recorded<'a, D: Disk> {
-    /// What was told so far.
-    fn told(&mut self) -> &mut Told<'a>;
-
-    /// Before a step: the next file is begun, if that is due.
-    fn before(&mut self, stations: &mut Stations<D>, now: u64) -> Result<(), Fault>;
+/// What a station is recorded into.
+pub trait Recorded<D: Disk> {
+    /// Before a step: the next file is begun, if that is due. It returns what was answered then.
+    fn before<B: Beside>(
+        &mut self,
+        stations: &mut Stations<D>,
+        clocks: Clocks,
+        beside: &mut B,
+    ) -> Result<Option<Answered>, Fault>;
 
     /// After a step. If the recording can't go on in this file, it goes on in another one. It returns what is to be told.
-    fn after(&mut self, done: Done, stations: &mut Stations<D>, now: u64) -> Result<Done, Fault>;
+    fn after<B: Beside>(
+        &mut self,
+        done: Done,
+        stations: &mut Stations<D>,
+        clocks: Clocks,
+        beside: &mut B,
+    ) -> Result<Done, Fault>;
 }
 
 /// One file.
 #[derive(Drop)]
-pub struct OneFile<'a> {
-    pub told: Told<'a>,
-}
+pub struct OneFile;
 
-impl<'a, D: Disk> Recorded<'a, D> for OneFile<'a> {
-    fn told(&mut self) -> &mut Told<'a> {
-        &mut self.told
+impl<D: Disk> Recorded<D> for OneFile {
+    fn before<B: Beside>(
+        &mut self,
+        _stations: &mut Stations<D>,
+        _clocks: Clocks,
+        _beside: &mut B,
+    ) -> Result<Option<Answered>, Fault> {
+        Ok(None)
     }
 
-    fn before(&mut self, _stations: &mut Stations<D>, _now: u64) -> Result<(), Fault> {
-        Ok(())
-    }
-
-    fn after(&mut self, done: Done, _stations: &mut Stations<D>, _now: u64) -> Result<Done, Fault> {
+    fn after<B: Beside>(
+        &mut self,
+        done: Done,
+        _stations: &mut Stations<D>,
+        _clocks: Clocks,
+        _beside: &mut B,
+    ) -> Result<Done, Fault> {
         Ok(done)
     }
 }
 
 /// The files of a folder.
 #[derive(Drop)]
-pub struct Files<'a, F: Folder, R> {
-    pub rt: &'a HostRuntime,
-    pub keeper: Keeper<'a>,
+pub struct Files<F: Folder, R> {
     pub filed: Filed<F>,
     pub readers: R,
 }
 
-impl<'a, D: Disk + Drop, F: Folder<File = D> + Drop, R: Readers<D> + Drop> Recorded<'a, D>
-    for Files<'a, F, R> {
-    fn told(&mut self) -> &mut Told<'a> {
-        &mut self.keeper.told
-    }
-
-    fn before(&mut self, stations: &mut Stations<D>, now: u64) -> Result<(), Fault> {
-        let clocks = self.clocks(now);
-        let changed = self
+impl<D: Disk + Drop, F: Folder<File = D> + Drop, R: Readers<D> + Drop> Recorded<D> for Files<F, R> {
+    fn before<B: Beside>(
+        &mut self,
+        stations: &mut Stations<D>,
+        clocks: Clocks,
+        beside: &mut B,
+    ) -> Result<Option<Answered>, Fault> {
+        match self
             .filed
-            .change_if_due(stations, &mut self.readers, clocks, &mut self.keeper);
-        match changed {
-            Ok(Some(answered)) => {
-                self.tell_begun(&answered, stations);
-                Ok(())
-            }
-            Ok(None) => Ok(()),
+            .change_if_due(stations, &mut self.readers, clocks, beside)
+        {
+            Ok(answered) => Ok(answered),
             Err(fault) => Err(fault_of(fault)),
         }
     }
 
-    fn after(&mut self, done: Done, stations: &mut Stations<D>, now: u64) -> Result<Done, Fault> {
-        let clocks = self.clocks(now);
+    fn after<B: Beside>(
+        &mut self,
+        done: Done,
+        stations: &mut Stations<D>,
+        clocks: Clocks,
+        beside: &mut B,
+    ) -> Result<Done, Fault> {
         let why = match done {
             Done::Lost(fault) => fault,
             Done::Failed => OpenFault::Disk,
             Done::Reopened(_) => {
-                self.filed.opened(stations, clocks.day, &mut self.keeper);
+                self.filed.opened(stations, clocks.day, beside);
                 return Ok(done);
             }
             _ => {
-                self.filed.stepped(stations, clocks.day, &mut self.keeper);
+                self.filed.stepped(stations, clocks.day, beside);
                 return Ok(done);
             }
         };
-        let recovered = self
+        match self
             .filed
-            .recover(stations, &mut self.readers, why, clocks, &mut self.keeper);
-        match recovered {
+            .recover(stations, &mut self.readers, why, clocks, beside)
+        {
             Ok(done) => Ok(done),
             Err(fault) => Err(fault_of(fault)),
         }
     }
 }
 
-impl<'a, D: Disk + Drop, F: Folder<File = D> + Drop, R: Drop> Files<'a, F, R> {
+impl<D: Disk + Drop, F: Folder<File = D> + Drop, R: Drop> Files<F, R> {
     /// The station has come to its end. Its newest file is cut to its pages, if that is asked for.
-    pub fn close(self, hub: Hub<D>, seal: bool) -> Result<(), Fault> {
-        let Files {
-            mut keeper,
-            mut filed,
-            ..
-        } = self;
+    pub fn close<B: Beside>(self, hub: Hub<D>, seal: bool, beside: &mut B) -> Result<(), Fault> {
+        let Files { mut filed, .. } = self;
         match hub.into_recorder() {
             Ok(recorder) if seal => {
-                if filed.close(recorder, &mut keeper) {
+                if filed.close(recorder, beside) {
                     Ok(())
                 } else {
                     Err(Fault::Seal)
@@ -118,25 +123,6 @@ impl<'a, D: Disk + Drop, F: Folder<File = D> + Drop, R: Drop> Files<'a, F, R> {
             }
             _ => Ok(()),
         }
-    }
-}
-
-impl<'a, F: Folder, R> Files<'a, F, R> {
-    /// The time.
-    fn clocks(&self, steady: u64) -> Clocks {
-        Clocks {
-            steady,
-            day: now(self.rt),
-        }
-    }
-
-    /// A file was begun, and in it the link that is open.
-    fn tell_begun<D: Disk + Drop>(&mut self, answered: &Answered, stations: &Stations<D>) {
-        let hub = stations.newest().hub();
-        self.keeper.told.answered(0, answered);
-        self.keeper
-            .told
-            .settle(hub.held(), hub.is_failed(), hub.end());
     }
 }
 

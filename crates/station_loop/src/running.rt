@@ -3,12 +3,13 @@
 use crate::filing::Recorded;
 use crate::sockets::{Connection, Sockets, trouble};
 use crate::telling::{seconds, tell_done};
+use archive_actions::{Keeper, now};
 use disk_model::Disk;
 use fault_lines::Fault;
 use import_record::RecordFault;
 use serve_actions::{Log, tell_foreign};
 use station::{After, Done, FULL, Feeder, Trouble, station_line};
-use station_files::{Seat, Stations};
+use station_files::{Clocks, Seat, Stations};
 use std::io::{self, Read, Write};
 use std::net::{Shutdown, SocketAddr};
 use std::time::Instant;
@@ -18,9 +19,11 @@ const IN_ROUND: u32 = 64;
 
 /// A station that runs.
 #[derive(Drop)]
-pub struct Running<'a, D: Disk + Drop, R: Recorded<'a, D> + Drop> {
+pub struct Running<'a, D: Disk + Drop, R: Recorded<D> + Drop> {
     pub rt: &'a HostRuntime,
     pub stations: Stations<D>,
+    /// What is told, and what stands beside the files of a folder.
+    pub keeper: Keeper<'a>,
     /// What it is recorded into.
     pub recorded: R,
     pub sockets: Sockets,
@@ -30,13 +33,13 @@ pub struct Running<'a, D: Disk + Drop, R: Recorded<'a, D> + Drop> {
     pub now: u64,
 }
 
-impl<'a, D: Disk + Drop, R: Recorded<'a, D> + Drop> Running<'a, D, R> {
+impl<D: Disk + Drop, R: Recorded<D> + Drop> Running<'_, D, R> {
     /// Runs until a fault, or until the station has come to its end. A fault that was told is the last to be returned.
     pub fn run_to_end(&mut self) -> Result<(), Fault> {
         let ran = self.run();
-        self.recorded.told().close();
+        self.keeper.told.close();
         ran?;
-        match self.recorded.told().fault() {
+        match self.keeper.told.fault() {
             Some(fault) => Err(fault),
             None => Ok(()),
         }
@@ -87,7 +90,7 @@ impl<'a, D: Disk + Drop, R: Recorded<'a, D> + Drop> Running<'a, D, R> {
     }
 }
 
-impl<'a, D: Disk + Drop, R: Recorded<'a, D> + Drop> Running<'a, D, R> {
+impl<D: Disk + Drop, R: Recorded<D> + Drop> Running<'_, D, R> {
     /// Accepts connections that wait. It returns whether there may be more of them.
     fn accept(&mut self) -> bool {
         for _ in 0..IN_ROUND {
@@ -187,7 +190,7 @@ impl<'a, D: Disk + Drop, R: Recorded<'a, D> + Drop> Running<'a, D, R> {
     }
 }
 
-impl<'a, D: Disk + Drop, R: Recorded<'a, D> + Drop> Running<'a, D, R> {
+impl<D: Disk + Drop, R: Recorded<D> + Drop> Running<'_, D, R> {
     /// Whether standard input is to be read now.
     fn has_input(&self) -> bool {
         self.sockets.has_input && self.stations.newest().wants_input()
@@ -206,7 +209,7 @@ impl<'a, D: Disk + Drop, R: Recorded<'a, D> + Drop> Running<'a, D, R> {
         self.sockets.has_input = false;
         self.stations.newest_mut().input_ended(self.now);
         if let Err(fault) = read {
-            self.recorded.told().given_up(fault);
+            self.keeper.told.given_up(fault);
         }
     }
 
@@ -227,18 +230,20 @@ impl<'a, D: Disk + Drop, R: Recorded<'a, D> + Drop> Running<'a, D, R> {
     /// Takes steps of what is recorded, and tells them. It returns whether there may be more of them now.
     fn record(&mut self) -> Result<bool, Fault> {
         for _ in 0..IN_ROUND {
-            self.recorded.before(&mut self.stations, self.now)?;
-            self.take_moves();
+            self.change_if_due()?;
             let done = self.step();
             if let Done::Nothing = done {
                 return Ok(false);
             }
-            let done = self.recorded.after(done, &mut self.stations, self.now)?;
+            let clocks = self.clocks();
+            let done = self
+                .recorded
+                .after(done, &mut self.stations, clocks, &mut self.keeper)?;
             if let Done::Foreign { feeder, .. } = done {
                 self.turned_away(feeder);
             }
             tell_done(
-                self.recorded.told(),
+                &mut self.keeper.told,
                 &mut self.log,
                 &done,
                 self.stations.newest(),
@@ -251,10 +256,40 @@ impl<'a, D: Disk + Drop, R: Recorded<'a, D> + Drop> Running<'a, D, R> {
     /// The source of this feeder has left the air, since its stream isn't Ogg. Standard input is no source any more then.
     fn turned_away(&mut self, feeder: Feeder) {
         let address = self.address(feeder);
-        tell_foreign(self.rt, self.recorded.told(), feeder == Feeder::Input, address);
+        tell_foreign(
+            self.rt,
+            &mut self.keeper.told,
+            feeder == Feeder::Input,
+            address,
+        );
         if feeder == Feeder::Input {
             self.sockets.leave_input();
             self.stations.newest_mut().input_ended(self.now);
+        }
+    }
+
+    /// Goes over to the next file, if that is due.
+    fn change_if_due(&mut self) -> Result<(), Fault> {
+        let clocks = self.clocks();
+        let changed = self
+            .recorded
+            .before(&mut self.stations, clocks, &mut self.keeper)?;
+        if let Some(answered) = &changed {
+            let hub = self.stations.newest().hub();
+            self.keeper.told.answered(0, answered);
+            self.keeper
+                .told
+                .settle(hub.held(), hub.is_failed(), hub.end());
+        }
+        self.take_moves();
+        Ok(())
+    }
+
+    /// The time, by both clocks.
+    fn clocks(&self) -> Clocks {
+        Clocks {
+            steady: self.now,
+            day: now(self.rt),
         }
     }
 
@@ -292,10 +327,10 @@ impl<'a, D: Disk + Drop, R: Recorded<'a, D> + Drop> Running<'a, D, R> {
 
     /// Tells how it goes: what is in the log, and once a second the line at a terminal.
     fn tell(&mut self) {
-        self.log.tell(self.recorded.told());
+        self.log.tell(&mut self.keeper.told);
         if self.stations.look(self.now) {
             let line = station_line(self.stations.newest().shown());
-            self.recorded.told().show_other(line.as_slice());
+            self.keeper.told.show_other(line.as_slice());
             self.stations.close_unread();
         }
     }
