@@ -23,7 +23,7 @@ use Rattle.file_recorder.specs.Recorder.{IsRecorder, IsIn, recorder_state}
 pub as_before : (before : DiskState) (image : List ℕ) → IsImage before image → IsAsBefore Commits before image
 as_before before image is = record { source = image; was = is; keeps = λ bytes commits. commits }
 
-commits_as_before : (before : DiskState) (b source image : List ℕ) → IsImage before source → CommitsTo b source → CommitsTo b image → IsAsBefore Commits before image
+pub commits_as_before : (before : DiskState) (b source image : List ℕ) → IsImage before source → CommitsTo b source → CommitsTo b image → IsAsBefore Commits before image
 commits_as_before before b source image is was now = record {
   source = source;
   was = is;

@@ -45,7 +45,7 @@ whole_links (link ∷ links) [] held = absurd held
 whole_links (link ∷ []) (streams ∷ recording) held = whole_streams link (serials_of link) streams held.0
 whole_links (link ∷ next ∷ links) (streams ∷ recording) held = whole_links (next ∷ links) recording held.1
 
-not_unfinished : (bytes : List ℕ) (recording : Recording) (serial : ℕ) → Holds bytes recording → IsUnfinished bytes serial → ⊥
+pub not_unfinished : (bytes : List ℕ) (recording : Recording) (serial : ℕ) → Holds bytes recording → IsUnfinished bytes serial → ⊥
 not_unfinished bytes recording serial held is =
     let same : is.links ≡ held.0 = one_chain bytes is.links held.0 is.are_links held.1 in
     none_some (unfinished_stream (chain_state_of held.0)) serial (whole_links held.0 recording held.2) (subst (λ (links : Links). unfinished_stream (chain_state_of links) ≡ Some serial) same is.told)
@@ -57,7 +57,7 @@ not_taken start [] page rest links mid fault here told all =
     none_some (fault_of_page (chain_state_of start) page) fault all.0 (subst (λ (l : Links). fault_of_page (chain_state_of l) page ≡ Some fault) here told)
 not_taken start (p ∷ pages) page rest links mid fault here told all = not_taken (links_with start p) pages page rest links mid fault here.1 told all.1
 
-not_broken : (bytes : List ℕ) (recording : Recording) (offset : ℕ) (fault : ChainFault) → Holds bytes recording → IsBrokenAt bytes offset fault → ⊥
+pub not_broken : (bytes : List ℕ) (recording : Recording) (offset : ℕ) (fault : ChainFault) → Holds bytes recording → IsBrokenAt bytes offset fault → ⊥
 not_broken bytes recording offset fault held is =
     let all : List Page = is.pages ++ is.page ∷ is.rest in
     let taken : AreTaken [] all held.0 = (in_turn all held.0 is.are_pages).1 (subst (λ (l : List ℕ). AreLinks l held.0) is.joined held.1) in

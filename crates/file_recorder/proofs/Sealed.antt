@@ -1,5 +1,5 @@
 -- A flush and a sealing by one call, as two steps of a history.
-use Rattle.std.proofs.Common.{◌≡◌, true, List, ◌++◌, ℕ, refl, sym, subst}
+use Rattle.std.proofs.Common.{◌≡◌, true, ◌++◌, refl, sym, subst}
 use Rattle.std.proofs.lemmas.Grind.{fold-append}
 use Rattle.std.specs.List.{fold}
 use Rattle.disk_model.specs.declared.disk.Disk.{Ghosts as DiskModel}

@@ -1,7 +1,12 @@
 //! What is recovered of a file, whatever happens to it.
-ghost use Rattle.std.specs.Prelude.{◌≡◌, ◌⊎◌, ◌++◌, [], true, ℕ, List};
+ghost use Rattle.std.specs.Prelude.{◌≡◌, ◌⊎◌, ◌++◌, [], true, ℕ, List, take};
 ghost use Rattle.disk_model.specs.Image.{IsImage};
+ghost use Rattle.ogg_page.specs.declared.fault.PageFault.{PageFault as PageFaultOf};
+ghost use Rattle.gate_file.specs.Found.{IsDamagedAt};
+ghost use Rattle.gate_file.specs.Gate.{EndsAt};
+ghost use Rattle.link_chain.specs.ChainState.{ChainState as ChainStateOf};
 ghost use Rattle.link_chain.specs.Recording.{Recording};
+ghost use Rattle.link_chain.specs.declared.chain_fault.ChainFault.{ChainFault as ChainFaultOf};
 ghost use Rattle.chain_rules.specs.Recording.{add, after as after_commands};
 ghost use Rattle.ogg_command.specs.declared.command.Command.{Command as CommandOf};
 ghost use Rattle.history.specs.Showing.{ShowsOnly, Finds};
@@ -9,6 +14,7 @@ ghost use Rattle.history.specs.World.{World, Call, Step, begun, commands};
 ghost use Rattle.history.specs.Commands.{ShowsFirst};
 ghost use Rattle.history.specs.History.{Leaves, MayBegin, IsHistory};
 ghost use Rattle.file_recorder.specs.Recovery.{Links, Shows, Accepts};
+ghost use Rattle.file_recorder.specs.Taking.{HoldsChain, IsBrokenAt, IsUnfinished};
 ghost use Rattle.feed_records.specs.declared.item.Record.{Record};
 ghost use Rattle.feed_replies.specs.declared.reply.Reply.{Reply};
 ghost use Rattle.feed_runner.specs.Answering.{AnswersAll};
@@ -58,6 +64,20 @@ impl Recordings for Recorded {
 pub fn images_show_one_recording()
     ensures one { (image : List ℕ) (recording other : Recording) → Shows image recording → Shows image other → recording ≡ other }
     ensures new { Shows [] [] }
+{}
+
+/// Bytes that show a recording have no page that is damaged or may not follow, and no packet in them is unfinished: an
+/// opening refuses them only for want of memory, or by the disk.
+pub fn what_shows_a_recording_is_opened()
+    ensures damaged { (contents : List ℕ) (recording : Recording) → Shows contents recording
+        → (offset : ℕ) (fault : PageFaultOf) → IsDamagedAt contents offset fault → ⊥ }
+    ensures broken { (contents : List ℕ) (recording : Recording) → Shows contents recording → (end : ℕ) → EndsAt contents end
+        → (offset : ℕ) (fault : ChainFaultOf) → IsBrokenAt (take end contents) offset fault → ⊥ }
+    ensures unfinished { (contents : List ℕ) (recording : Recording) → Shows contents recording → (end : ℕ) → EndsAt contents end
+        → (serial : ℕ) → IsUnfinished (take end contents) serial → ⊥ }
+    // What is opened shows one.
+    ensures shown { (contents : List ℕ) (end : ℕ) (chain : ChainStateOf) → EndsAt contents end
+        → HoldsChain (take end contents) chain → (recording : Recording) × Shows contents recording }
 {}
 
 /// After any list of openings, commands, flushes, sealings and stops, at any moment, every image of the disk shows

@@ -1,11 +1,11 @@
 //! A file is opened: one pass finds the end of its committed bytes and takes their pages into a chain.
-ghost use Rattle.std.specs.Prelude.{◌≡◌, ◌≢◌, ◌↔◌, ◌⊎◌, ◌+◌, ◌-◌, ◌^◌, ◌<◌, ◌≤◌, ℕ, List, [], Some, None, length, take, IfOk, IfErr};
-ghost use Rattle.disk_model.specs.Image.{IsImage};
+ghost use Rattle.std.specs.Prelude.{◌≡◌, ◌≢◌, [], false, ◌↔◌, ◌⊎◌, ◌+◌, ◌-◌, ◌^◌, ◌<◌, ◌≤◌, ℕ, List, Some, None, length, take, IfOk, IfErr};
+ghost use Rattle.disk_model.specs.Image.{IsImage, settled};
 ghost use Rattle.link_chain.specs.ChainState.{chain_state_of};
 ghost use Rattle.link_chain.specs.Links.{AreLinks};
 ghost use Rattle.link_chain.specs.Taking.{unfinished_stream};
 ghost use Rattle.link_chain.specs.declared.chain_fault.ChainFault.{ChainFault as ChainFaultOf};
-ghost use Rattle.gate_file.specs.Found.{HasEnd, found_bytes};
+ghost use Rattle.gate_file.specs.Found.{HasEnd, found_bytes, found_state};
 ghost use Rattle.gate_file.specs.Gate.{EndsAt};
 ghost use Rattle.gate_file.specs.Opening.{Opens, GivesBack};
 ghost use Rattle.file_recorder.specs.Recovery.{Links};
@@ -81,6 +81,29 @@ pub(crate) fn find_chain<D: Disk>(alloc: Global, disk: D) -> Result<FoundChain<D
         }),
         Err(fault) => Err((fault, found.give_back())),
     }
+}
+
+/// What is found of an empty disk: no page. No call of it is made. If memory is refused the disk is given back.
+pub(crate) fn find_empty<D: Disk>(alloc: Global, disk: D) -> Result<FoundChain<D>, D>
+    requires { D.is_honest disk → D.state disk ≡ settled [] }
+    ensures found { IfOk result (λ o. o.found ≡ found_state disk 0 0 false) }
+    ensures chain { IfOk result (λ o. HoldsChain [] o.shape.chain) }
+    ensures same { IfErr result (λ back. back ≡ disk) }
+{
+    let buffer = match PageBuffer::new(alloc) {
+        Ok(buffer) => buffer,
+        Err(Memory) => return Err(disk),
+    };
+    let small = match SmallPage::new(alloc) {
+        Ok(small) => small,
+        Err(Memory) => return Err(disk),
+    };
+    Ok(FoundChain {
+        found: Found::empty(disk),
+        shape: Shape::new(alloc),
+        buffer,
+        small,
+    })
 }
 
 /// The chain of all pages; or why a page wasn't taken; or which stream's last packet is unfinished.

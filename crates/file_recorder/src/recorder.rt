@@ -1,6 +1,6 @@
 //! A recorder of commands.
-ghost use Rattle.std.specs.Prelude.{◌≡◌, ◌≢◌, ◌↔◌, ◌⊎◌, ◌+◌, ◌-◌, ◌^◌, ◌<◌, ◌≤◌, true, false, Bool, ℕ, List, length, take, drop, OnOk, IfOk, IfErr, ◌++◌, ⊤};
-ghost use Rattle.disk_model.specs.Image.{IsSettled};
+ghost use Rattle.std.specs.Prelude.{◌≡◌, ◌≢◌, ◌↔◌, [], ◌⊎◌, ◌+◌, ◌-◌, ◌^◌, ◌<◌, ◌≤◌, true, false, Bool, ℕ, List, length, take, drop, OnOk, IfOk, IfErr, ◌++◌, ⊤};
+ghost use Rattle.disk_model.specs.Image.{IsSettled, settled};
 ghost use Rattle.disk_model.specs.Leaving.{LeavesOnly};
 ghost use Rattle.disk_model.specs.Fault.{HasCause, Rises};
 ghost use Rattle.disk_model.specs.Frame.{Frame};
@@ -19,7 +19,7 @@ ghost use Rattle.file_recorder.specs.Recovery.{Commits, Shows};
 ghost use Rattle.file_recorder.specs.Taking.{HoldsChain, IsBrokenAt, IsUnfinished};
 ghost use Rattle.file_recorder.specs.Recorder.{RecorderState, IsRecorder, IsIn, recorder_state, over_disk, committed, staged, IsRecorderStep};
 
-use crate::opening::{FoundChain, find_chain, rooms};
+use crate::opening::{FoundChain, find_chain, find_empty, rooms};
 use crate::staging::SmallPage;
 use chain_rules::{Plan, Serials, Shape, StreamState};
 use disk_model::{Disk, DiskFault};
@@ -149,6 +149,56 @@ impl<D: Disk> Recorder<D> {
                 most: 1,
             }),
             Err(disk) => Err((OpenFault::Disk, disk)),
+        }
+    }
+
+    /// Opens a file that was made, whose disk is empty whatever stops. It writes a closed byte and syncs, so that it takes a
+    /// sync less than `open`. Each command is then a group of its own. The faults are `Memory` and `Disk`; after the first
+    /// one no call of the disk was made.
+    pub fn open_empty(alloc: Global, disk: D) -> Result<Recorder<D>, (OpenFault, D)>
+        requires { D.is_honest disk → D.state disk ≡ settled [] }
+        ensures fresh { IfOk result (λ r. (r.file.failed ≡ false) × (r.file.end ≡ 0) × (r.file.staged ≡ 0)
+            × (r ≡ recorder_state r.file r.chain 0 0 0 1)) }
+        ensures faults { IfErr result (λ e. (e.0 ≡ OpenFault.Disk) ⊎ ((e.0 ≡ OpenFault.Memory) × (e.1 ≡ disk))) }
+
+        // Every image since the call began commits to nothing.
+        ensures any_moment { IfOk result (λ r. D.is_honest disk → LeavesOnly D.Disk disk r.file.disk (CommitsTo [])) }
+        ensures any_moment_err { IfErr result (λ e. D.is_honest disk → LeavesOnly D.Disk disk e.1 (CommitsTo [])) }
+
+        // It is a step of each history that led to the disk.
+        ensures step { IfOk result (λ r. (first : Recording) (w : World CommandOf) → StandsIn Shows add first w (D.state disk)
+            → w.is_open ≡ false → D.is_honest disk → (found : Bool)
+            × IsRecorderStep D.Disk first w (Opened found) disk r.file.disk
+            × IsIn D.Disk first (happens w (Opened found)) r) }
+        ensures step_err { IfErr result (λ e. (first : Recording) (w : World CommandOf) → w.is_open ≡ false → D.is_honest disk
+            → IsRecorderStep D.Disk first w (Faulted Opening) disk e.1) }
+        ensures frame { IfOk result (λ r. Frame D.Disk disk r.file.disk ⊥) }
+        ensures frame_err { IfErr result (λ e. Frame D.Disk disk e.1 (e.0 ≡ OpenFault.Disk)) }
+    {
+        // For the proof alone.
+        disks_stand_in_their_world::<D, crate::laws::Recorded>();
+        let FoundChain {
+            found,
+            shape,
+            buffer,
+            small,
+        } = match find_empty(alloc, disk) {
+            Ok(found) => found,
+            Err(disk) => return Err((OpenFault::Memory, disk)),
+        };
+        match found.ready() {
+            Ok(file) => Ok(Recorder {
+                file,
+                shape,
+                plan: Plan::new(),
+                buffer,
+                small,
+                tail: 0,
+                kept: 0,
+                held: 0,
+                most: 1,
+            }),
+            Err(fault) => Err(fault),
         }
     }
 

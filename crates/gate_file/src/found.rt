@@ -1,5 +1,6 @@
 //! A file whose committed bytes were found.
-ghost use Rattle.std.specs.Prelude.{◌≡◌, ◌↔◌, ◌⊎◌, ◌+◌, ◌-◌, ◌^◌, ◌<◌, ◌≤◌, ℕ, length, take, drop, true, false, OnOk, IfOk, IfErr, IsTrue, IsErr, ⊤};
+ghost use Rattle.std.specs.Prelude.{◌≡◌, ◌↔◌, ◌⊎◌, [], ◌+◌, ◌-◌, ◌^◌, ◌<◌, ◌≤◌, ℕ, length, take, drop, true, false, OnOk, IfOk, IfErr, IsTrue, IsErr, ⊤};
+ghost use Rattle.disk_model.specs.Image.{settled};
 ghost use Rattle.disk_model.specs.Leaving.{LeavesOnly};
 ghost use Rattle.disk_model.specs.Fault.{HasCause};
 ghost use Rattle.disk_model.specs.Frame.{Frame};
@@ -49,6 +50,14 @@ impl<D: Disk> Found<D> {
             tail,
             closed,
         }
+    }
+
+    /// What is found of a disk that was made, so that it is empty whatever stops: nothing. No call of it is made.
+    pub fn empty(disk: D) -> Found<D>
+        requires { D.is_honest disk → D.state disk ≡ settled [] }
+        ensures { result ≡ found_state disk 0 0 false }
+    {
+        Found::at(disk, 0, 0, false)
     }
 
     /// The length of the committed bytes.
