@@ -60,6 +60,8 @@ pub trait Folder {
             → names self.new ≡ made name.number (names self.old)) }
         ensures empty { IfOk result (λ disk. is_honest self.old
             → Self.File.is_honest disk × (Self.File.state disk ≡ settled [])) }
+        // Also in a folder that isn't honest the file is a new one.
+        ensures fresh { IfOk result (λ disk. Self.File.is_honest disk → Self.File.state disk ≡ settled []) }
         ensures out { OnOk result (is_honest self.old → file self.new name.number ≡ Out) }
         ensures failed { OnErr result (is_honest self.old
             → (names self.new ≡ names self.old)

@@ -142,6 +142,7 @@ impl<F: Folder> Folder for FuseFolder<F> {
             → F.names (folder_of self.new) ≡ made name.number (F.names (folder_of self.old))) }
         ensures empty { IfOk result (λ disk. F.is_honest (folder_of self.old)
             → F.File.is_honest disk × (F.File.state disk ≡ settled [])) }
+        ensures fresh { IfOk result (λ disk. F.File.is_honest disk → F.File.state disk ≡ settled []) }
         ensures out { OnOk result (F.is_honest (folder_of self.old) → F.file (folder_of self.new) name.number ≡ Out) }
         ensures failed { OnErr result (F.is_honest (folder_of self.old)
             → (F.names (folder_of self.new) ≡ F.names (folder_of self.old))

@@ -29,6 +29,8 @@ pub fn begin_file<D: Disk, F: Folder<File = D>, B: Recordings>(
         (point folder.new (with_disk name.number disk disks))) }
     ensures empty { IfOk result (λ disk. F.is_honest folder.old
         → D.is_honest disk × (D.state disk ≡ settled [])) }
+    // Also in a folder that isn't honest the file is a new one.
+    ensures fresh { IfOk result (λ disk. D.is_honest disk → D.state disk ≡ settled []) }
     ensures out { OnOk result (F.is_honest folder.old → F.file folder.new name.number ≡ Out) }
     ensures names { OnOk result (F.is_honest folder.old
         → F.names folder.new ≡ synced (made name.number (F.names folder.old))) }
