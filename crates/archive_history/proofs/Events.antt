@@ -201,12 +201,14 @@ same_newest (Some file) = (refl, may_same file.name.fate, refl)
 pub same_account : {C : Type 0} (a : Archive C) → Resolves a a
 same_account a = (same_files a.ended, same_newest a.newest)
 
-thrown_event : {C : Type 0} (a : Archive C) (n : ℕ) (new : List Name) → Thrown (thrown n a.ended) (newest_names a.newest) new → (b : Archive C) × Resolves (begun_by a (Throwing n)) b × (new ≡ names b)
-thrown_event a n new by = (archive by.others a.newest, (by.are, same_newest a.newest), sym by.same)
+thrown_event : {C : Type 0} (a : Archive C) (n : ℕ) (new : List Name) → Thrown (thrown n a.ended) (newest_names a.newest) new
+    → (b : Archive C) × Resolves (begun_by a (Throwing n)) b × (new ≡ names b) × (b.newest ≡ a.newest)
+thrown_event a n new by = (archive by.others a.newest, (by.are, same_newest a.newest), sym by.same, refl)
 
-pub failed_throwing : {C : Type 0} (a : Archive C) (n : ℕ) (new : List Name) → IsNotNewest n a.newest → MayHaveRemoved n (names a) new
-    → (b : Archive C) × Resolves (begun_by a (Throwing n)) b × (new ≡ names b)
-failed_throwing a n new other may =
+-- the newest file is the same
+pub failed_throwing_same : {C : Type 0} (a : Archive C) (n : ℕ) (new : List Name) → IsNotNewest n a.newest → MayHaveRemoved n (names a) new
+    → (b : Archive C) × Resolves (begun_by a (Throwing n)) b × (new ≡ names b) × (b.newest ≡ a.newest)
+failed_throwing_same a n new other may =
     let more = newest_names a.newest in
     let after = thrown n a.ended in
     ⊎_elim
@@ -216,6 +218,12 @@ failed_throwing a n new other may =
     (λ goes. thrown_event a n new (subst (Thrown after more) (sym goes) (thrown_as n Goes a.ended more (not_newest n Goes a.newest other))))
     changed)
     may
+
+pub failed_throwing : {C : Type 0} (a : Archive C) (n : ℕ) (new : List Name) → IsNotNewest n a.newest → MayHaveRemoved n (names a) new
+    → (b : Archive C) × Resolves (begun_by a (Throwing n)) b × (new ≡ names b)
+failed_throwing a n new other may =
+    let after = failed_throwing_same a n new other may in
+    (after.0, after.1, after.2)
 
 -- a file that is sealed has its contents as its only image
 pub ending : (disk : DiskState) → IsSettled disk → IsImage disk disk.contents → IsOnly disk.contents disk

@@ -9,3 +9,4 @@ mod Keeping
 mod Removals
 mod Examples
 mod Starting
+mod Led

@@ -17,13 +17,13 @@ use Rattle.archive_history.specs.History.{Point, point, with_disk, Called, Leave
 use Rattle.archive_history.specs.Accounted.{Stands as StandsBy, Now, StandsAs}
 use Rattle.archive_history.proofs.Events.{making, failed_making, same_files}
 
-at_same : {D : Type 0} (n : ℕ) (disk : D) (disks : ℕ → D) → with_disk n disk disks n ≡ disk
+pub at_same : {D : Type 0} (n : ℕ) (disk : D) (disks : ℕ → D) → with_disk n disk disks n ≡ disk
 at_same n disk disks = ap (λ (b : Bool). if b then disk else disks n) (same_test n)
   where
     same_test : (n : ℕ) → (n == n) ≡ true
     same_test n = grind (arith, nat_tests)
 
-at_other : {D : Type 0} (n m : ℕ) (disk : D) (disks : ℕ → D) → m ≢ n → with_disk n disk disks m ≡ disks m
+pub at_other : {D : Type 0} (n m : ℕ) (disk : D) (disks : ℕ → D) → m ≢ n → with_disk n disk disks m ≡ disks m
 at_other n m disk disks other = ap (λ (b : Bool). if b then disk else disks m) (other_test m n other)
   where
     other_test : (m n : ℕ) → m ≢ n → (m == n) ≡ false
@@ -40,7 +40,7 @@ settled_names {C} (There is_thrown first content ∷ files) = one first.number f
     one n Comes same = ap (λ (l : List Name). name n Stays ∷ l) same
     one n Goes same = same
 
-settled_resolve : {C : Type 0} (files : List (File C)) → FilesResolve files (settled_files files)
+pub settled_resolve : {C : Type 0} (files : List (File C)) → FilesResolve files (settled_files files)
 settled_resolve [] = tt
 settled_resolve (Gone commands ∷ files) = (refl, settled_resolve files)
 settled_resolve {C} (There is_thrown first content ∷ files) = one first.number first.fate (settled_resolve files)
@@ -59,7 +59,7 @@ synced_made (first ∷ ns) n = one first.number first.fate (synced_made ns n)
     one m Comes same = ap (λ (l : List Name). name m Stays ∷ l) same
     one m Goes same = same
 
-new_names : {C : Type 0} (a : Archive C) (n : ℕ) → a.newest ≡ None → synced (made n (names a)) ≡ names (with_new n a)
+pub new_names : {C : Type 0} (a : Archive C) (n : ℕ) → a.newest ≡ None → synced (made n (names a)) ≡ names (with_new n a)
 new_names {C} a n none =
     synced_made (names a) n
     ∙ ap (λ (newest : Option (Newest C)). synced (names_of a.ended ++ newest_names newest) ++ name n Stays ∷ []) none
@@ -93,7 +93,7 @@ module _ {F D S C : Type 0} (names_in : F → List Name) (moment : F → ℕ) (l
   only_empty disk image is now =
       settled_image (settled []) [] image (record { synced = refl; unwritten = λ k none. none; least = omega arith; greatest = omega arith }) (subst (λ (d : DiskState). IsImage d image) is now)
 
-  any_empty : (newest : Option (Newest C)) (disk : DiskState) → disk ≡ settled [] → IsEmptyAt names_in moment left_since model shows accepts next first newest disk
+  pub any_empty : (newest : Option (Newest C)) (disk : DiskState) → disk ≡ settled [] → IsEmptyAt names_in moment left_since model shows accepts next first newest disk
   any_empty None disk is = tt
   any_empty (Some file) disk is = λ image now. only_empty disk image is now
 

@@ -3,3 +3,4 @@ pub mod Showing
 pub mod History
 pub mod Accounted
 pub mod Starting
+pub mod Leading

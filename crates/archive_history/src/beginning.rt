@@ -3,9 +3,10 @@ ghost use Rattle.std.specs.Prelude.{◌≡◌, ◌≢◌, ◌↔◌, [], None, �
 ghost use Rattle.disk_model.specs.Fault.{HasCause};
 ghost use Rattle.disk_model.specs.Image.{settled};
 ghost use Rattle.archive_folder.specs.Names.{AreBelow, Out, made, synced};
-ghost use Rattle.archive_history.specs.Archive.{Archive, Making, begun_by, with_new, Resolves};
+ghost use Rattle.archive_history.specs.Archive.{Archive, Making, begun_by, names, with_new, Resolves};
 ghost use Rattle.archive_history.specs.Accounted.{StandsAs};
 ghost use Rattle.archive_history.specs.History.{Point, point, with_disk, LeavesNames, MayHaveBegun};
+ghost use Rattle.archive_history.specs.Leading.{Leads};
 
 use crate::folders_stand_as_their_account;
 use archive_folder::{FileName, Folder};
@@ -45,6 +46,20 @@ pub fn begin_file<D: Disk, F: Folder<File = D>, B: Recordings>(
 
     ensures kept { OnErr result (F.is_honest folder.old
         → MayHaveBegun D.Disk name.number (F.names folder.old) (F.names folder.new) (F.file folder.new)) }
+
+    // Events of the law lead there, and after a fault to an account in which no file is written.
+    ensures leads { IfOk result (λ disk. F.is_honest folder.old
+        → (first : B.State) (a : Archive B.Command) (disks : ℕ → D)
+        → a.newest ≡ None → F.names folder.old ≡ names a
+        → Leads F.names F.moment F.left_since D.Disk B.shows B.accepts B.next
+        first a (point folder.old disks)
+        (with_new name.number a) (point folder.new (with_disk name.number disk disks))) }
+    ensures failed_leads { OnErr result (F.is_honest folder.old
+        → (first : B.State) (a : Archive B.Command) (disks : ℕ → D)
+        → a.newest ≡ None → F.names folder.old ≡ names a
+        → (b : Archive B.Command) × (after : ℕ → D) × (b.newest ≡ None)
+        × Leads F.names F.moment F.left_since D.Disk B.shows B.accepts B.next
+        first a (point folder.old disks) b (point folder.new after)) }
 
     // A stop at any moment leaves what was there, without the new file or with it.
     ensures any_moment { F.is_honest folder.old

@@ -10,6 +10,7 @@ ghost use Rattle.archive_history.specs.Archive.{Archive, Move, Making, Throwing,
 ghost use Rattle.archive_history.specs.Showing.{numbers, ShowsArchive, ShowsCommands};
 ghost use Rattle.archive_history.specs.Accounted.{StandsAs};
 ghost use Rattle.archive_history.specs.History.{Point, Event, IsNotNewest, IsOnly, IsImageOf, MayMove, LeavesAll, LeavesNames, WasImage, IsEvent, IsArchiveHistory, Resumes, ThrowsNothing, answered};
+ghost use Rattle.archive_history.specs.Leading.{Leads};
 ghost use Rattle.archive_history.specs.Starting.{AllStay, EndsEmpty, LastFile};
 
 use archive_folder::Folder;
@@ -104,6 +105,38 @@ pub fn folders_stand_as_their_account<D: Disk, F: Folder<File = D>, B: Recording
         first a event b old new
         → F.names new.folder ≡ names b
         → StandsAs F.names D.Disk B.shows B.next first b new }
+{
+    disks_stand_in_their_world::<D, B>();
+}
+
+/// Events that lead from one account and point to another go on with those that lead on from there. A folder that stood as
+/// the one account says stands as the other, and a history goes on by them.
+pub fn events_lead_on<D: Disk, F: Folder<File = D>, B: Recordings>()
+    ensures nothing { (first : B.State) (a : Archive B.Command) (here : Point F D)
+        → Leads F.names F.moment F.left_since D.Disk B.shows B.accepts B.next
+        first a here a here }
+    ensures both { (first : B.State) (a b c : Archive B.Command) (old mid new : Point F D)
+        → Leads F.names F.moment F.left_since D.Disk B.shows B.accepts B.next
+        first a old b mid
+        → Leads F.names F.moment F.left_since D.Disk B.shows B.accepts B.next
+        first b mid c new
+        → Leads F.names F.moment F.left_since D.Disk B.shows B.accepts B.next
+        first a old c new }
+    ensures stands { (first : B.State) (a b : Archive B.Command) (old new : Point F D)
+        → B.shows [] first
+        → StandsAs F.names D.Disk B.shows B.next first a old
+        → Leads F.names F.moment F.left_since D.Disk B.shows B.accepts B.next
+        first a old b new
+        → StandsAs F.names D.Disk B.shows B.next first b new }
+    ensures history { (first : B.State) (start now new : Point F D) (a b : Archive B.Command)
+        (events : List (Event B.Command × Archive B.Command × Point F D))
+        → IsArchiveHistory F.names F.moment F.left_since D.Disk B.shows B.accepts B.next
+        first start events a now
+        → Leads F.names F.moment F.left_since D.Disk B.shows B.accepts B.next
+        first a now b new
+        → (all : List (Event B.Command × Archive B.Command × Point F D))
+        × IsArchiveHistory F.names F.moment F.left_since D.Disk B.shows B.accepts B.next
+        first start all b new }
 {
     disks_stand_in_their_world::<D, B>();
 }

@@ -4,9 +4,10 @@ ghost use Rattle.disk_model.specs.Fault.{HasCause};
 ghost use Rattle.archive_folder.specs.Clock.{MayHaveRemoved};
 ghost use Rattle.std.specs.List.{Contains};
 ghost use Rattle.archive_folder.specs.Names.{IsKept, listed, removed};
-ghost use Rattle.archive_history.specs.Archive.{Archive, Throwing, begun_by, Resolves};
+ghost use Rattle.archive_history.specs.Archive.{Archive, Throwing, begun_by, names, Resolves};
 ghost use Rattle.archive_history.specs.Accounted.{StandsAs};
 ghost use Rattle.archive_history.specs.History.{point, IsNotNewest, LeavesNames};
+ghost use Rattle.archive_history.specs.Leading.{Leads};
 
 use crate::folders_stand_as_their_account;
 use archive_folder::{FileName, Folder};
@@ -41,6 +42,19 @@ pub fn throw_away<D: Disk, F: Folder<File = D>, B: Recordings>(
         × StandsAs F.names D.Disk B.shows B.next first b (point folder.new disks)) }
     ensures failed_names { OnErr result (F.is_honest folder.old
         → MayHaveRemoved name.number (F.names folder.old) (F.names folder.new)) }
+
+    // An event of the law leads there.
+    ensures leads { OnOk result (F.is_honest folder.old
+        → (first : B.State) (a : Archive B.Command) (disks : ℕ → D)
+        → IsNotNewest name.number a.newest → F.names folder.old ≡ names a
+        → Leads F.names F.moment F.left_since D.Disk B.shows B.accepts B.next
+        first a (point folder.old disks) (begun_by a (Throwing name.number)) (point folder.new disks)) }
+    ensures failed_leads { OnErr result (F.is_honest folder.old
+        → (first : B.State) (a : Archive B.Command) (disks : ℕ → D)
+        → IsNotNewest name.number a.newest → F.names folder.old ≡ names a
+        → (b : Archive B.Command) × (b.newest ≡ a.newest)
+        × Leads F.names F.moment F.left_since D.Disk B.shows B.accepts B.next
+        first a (point folder.old disks) b (point folder.new disks)) }
 
     // A stop at any moment leaves what was there, with this file or without it.
     ensures any_moment { F.is_honest folder.old

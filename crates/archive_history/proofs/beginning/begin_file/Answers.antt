@@ -3,6 +3,7 @@ use Rattle.archive_folder.specs.declared.names.Name.{Name}
 use Rattle.archive_folder.specs.Names.{IsLeft, made}
 use Rattle.archive_folder.specs.NamesLaws.{left_of_made}
 use Rattle.archive_history.proofs.NewFiles.{not_made, not_synced, leaves_names, leaves_both, begun}
+use Rattle.archive_history.proofs.Led.{begun_leads, not_made_leads, not_synced_leads}
 use Rattle.archive_history.proofs.beginning.begin_file.Goals as goal
 
 pub returns-in-Err-clause-any_moment : goal.returns-in-Err-clause-any_moment
@@ -74,3 +75,41 @@ returns-in-Err-sync-clause-failed g c = λ honest first a disks empty_shows none
     (λ x y event o n s. c.folders_stand_as_their_account.ensures.event first x y event o n empty_shows s)
     a c.args.name.number disks c.in-Ok.disk old c.make.new.self c.give_back.new.self none (c.requires honest) stands (g.met.F.Folder.laws old honest)
     (c.in-Ok.ensures.empty honest).1 (c.in-Ok.ensures.made honest) (c.give_back.ensures.same again ∙ c.in-Err-sync.ensures.failed still) (c.make.ensures.time honest)
+
+pub returns-in-Ok-sync-clause-leads : goal.returns-in-Ok-sync-clause-leads
+returns-in-Ok-sync-clause-leads g c = λ honest first a disks none same.
+    let f = g.F.Folder in
+    let b = g.B.Recordings in
+    let old = c.args.folder.now in
+    let mid = c.make.new.self in
+    let still = c.make.ensures.honest.0 honest in
+    begun_leads f.names f.moment f.left_since g.D.Disk b.shows b.accepts b.next first
+    a c.args.name.number disks old none (c.requires honest) same (g.met.F.Folder.laws old honest)
+    c.in-Ok.disk mid c.sync.new.self (g.met.F.Folder.laws mid still)
+    (c.in-Ok.ensures.empty honest).1 (c.in-Ok.ensures.made honest) (c.in-Ok-sync.ensures.synced still)
+    (c.make.ensures.time honest) (c.sync.ensures.time still)
+
+pub returns-in-Err-clause-failed_leads : goal.returns-in-Err-clause-failed_leads
+returns-in-Err-clause-failed_leads g c = λ honest first a disks none same.
+    let f = g.F.Folder in
+    let b = g.B.Recordings in
+    let old = c.args.folder.now in
+    not_made_leads f.names f.moment f.left_since g.D.Disk b.shows b.accepts b.next first
+    a c.args.name.number disks old none (c.requires honest) same (g.met.F.Folder.laws old honest)
+    c.make.new.self (c.make.ensures.time honest)
+    (⊎_elim inl (λ may. inr (may.0, (may.1.0, may.1.3))) (c.in-Err.ensures.failed honest))
+
+pub returns-in-Err-sync-clause-failed_leads : goal.returns-in-Err-sync-clause-failed_leads
+returns-in-Err-sync-clause-failed_leads g c = λ honest first a disks none same.
+    let f = g.F.Folder in
+    let b = g.B.Recordings in
+    let old = c.args.folder.now in
+    let mid = c.make.new.self in
+    let after = c.sync.new.self in
+    let still = c.make.ensures.honest.0 honest in
+    let again = c.sync.ensures.honest.0 still in
+    not_synced_leads f.names f.moment f.left_since g.D.Disk b.shows b.accepts b.next first
+    a c.args.name.number disks old none (c.requires honest) same (g.met.F.Folder.laws old honest)
+    c.in-Ok.disk mid after c.give_back.new.self (g.met.F.Folder.laws mid still) (g.met.F.Folder.laws after again)
+    (c.in-Ok.ensures.empty honest).1 (c.in-Ok.ensures.made honest) (c.in-Err-sync.ensures.failed still) (c.give_back.ensures.same again)
+    (c.make.ensures.time honest) (c.sync.ensures.time still) (c.give_back.ensures.time again)
