@@ -68,6 +68,18 @@ recorded "two pages" 'write 65306 32\nwrite 29 65338\nsync\nwrite 1 31\nsync\n' 
 stopped "a group" '0 0\n0 1\n0 32\n0 65\n0 92\n91 1\n' "$begin, $hello, end(1)" --group 3
 recorded "a group" 'write 31 1\nwrite 34 31\nwrite 28 64\nsync\nwrite 1 0\nsync\n' "$begin, $hello, end(1)" --group 3
 
+# A folder's file ends with its last commit: it is cut, synced, and the one byte is written and synced. Then the folder is
+# synced, the closed byte of the next file, and what its first commit writes: six syncs before anything of it is
+# acknowledged. The times of the file before come later.
+python3 "$here/filing.py" stream 1 30 >"$work/stream"
+rm -f "$work/log"
+FAILING_LOG=$work/log LD_PRELOAD=$work/failing.so run archive "$work/folder/" --most-bytes 400 <"$work/stream"
+check "a change of files: status" [ "$status" -eq 0 ]
+awk '/^cut/ { syncs = 0; bytes = 0; counts = 1 }
+    counts && /^sync/ { syncs++; if (bytes == 2) { print syncs; counts = 0 } }
+    counts && /^write 1 0$/ { bytes++ }' "$work/log" | sort -u >"$work/syncs"
+check "a change of files: its syncs" is_text "$work/syncs" '6\n'
+
 # What a stop leaves of a packet of 60,000 bytes is written over, and what was recorded is read again.
 cp "$work/begun.ogg" "$work/file.ogg"
 stopped "a large page" '31 1\n31 60264\n60294 1\n' 'put([(1, 5, bytes(60000))])'

@@ -30,6 +30,10 @@ pub struct Keeper<'a> {
     /// What the recording came to so far.
     pub told: Told<'a>,
     times: Option<Times>,
+    // those of the file before, which has ended: they aren't synced yet
+    ended: Option<File>,
+    // whether a line was written into the times since a file was begun
+    has_line: bool,
     // it was told that the file has no times
     has_told: bool,
 }
@@ -42,7 +46,16 @@ impl<'a> Keeper<'a> {
             folder,
             told,
             times: None,
+            ended: None,
+            has_line: false,
             has_told: false,
+        }
+    }
+
+    /// Syncs the times of the file that ended last, unless that was done.
+    pub fn sync_ended(&mut self) {
+        if let Some(file) = self.ended.take() {
+            let _ = OpenFile::sync_data(&file);
         }
     }
 
@@ -176,12 +189,19 @@ impl Beside for Keeper<'_> {
 
     fn begun(&mut self, file: FileName) {
         self.times = None;
+        self.has_line = false;
         self.has_told = false;
         let _ = self.open_times(file, 0);
         self.told.tell(file_line(file, b"begins").as_slice());
     }
 
     fn timed(&mut self, line: Line) {
+        // The first line comes with the first commit, whose answer is waited for: the times of the file before wait for
+        // the second.
+        if self.has_line {
+            self.sync_ended();
+        }
+        self.has_line = true;
         let text = line.text();
         let text = text.as_slice();
         if let Some(times) = &mut self.times {
@@ -194,10 +214,11 @@ impl Beside for Keeper<'_> {
     }
 
     fn ended(&mut self, file: FileName, bytes: u64) {
-        if let Some(times) = &self.times {
-            let _ = OpenFile::sync_data(&times.file);
-        }
-        self.times = None;
+        self.sync_ended();
+        self.ended = match self.times.take() {
+            Some(Times { file, .. }) => Some(file),
+            None => None,
+        };
         self.told.tell(ended_line(file, bytes).as_slice());
     }
 

@@ -337,11 +337,13 @@ impl<D: Disk + Drop, F: Folder<File = D> + Drop> FolderRecording<'_, D, F> {
             mut keeper,
             ..
         } = self;
-        match keeper.told.fault() {
+        let sealed = match keeper.told.fault() {
             Some(fault) => Err(fault),
             None if seal && !archive.close(&mut keeper) => Err(Fault::Seal),
             None => Ok(()),
-        }
+        };
+        keeper.sync_ended();
+        sealed
     }
 }
 
@@ -400,6 +402,7 @@ impl<D: Disk + Drop, F: Folder<File = D> + Drop> Recording for FolderRecording<'
     }
 
     fn close(&mut self) {
+        self.keeper.sync_ended();
         self.keeper.told.close();
     }
 }

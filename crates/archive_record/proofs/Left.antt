@@ -1,18 +1,24 @@
 -- Disks that are given back after more than one call.
 use Rattle.std.specs.Prelude.{◌≡◌, ◌≢◌, ◌⊎◌, ◌<◌, ◌≤◌, ℕ, List, length, take, drop, Result, Ok, Err, IfOk, IfErr}
-use Rattle.std.proofs.Common.{inl, inr, ⊎_elim, arith, sym, ap, ◌∙◌, subst}
+use Rattle.std.proofs.Common.{refl, inl, inr, ⊎_elim, arith, sym, ap, ◌∙◌, subst}
 use Rattle.std.proofs.lemmas.List.{length-take-le}
 use Rattle.disk_model.specs.declared.disk.Disk.{Ghosts as DiskModel}
 use Rattle.disk_model.specs.Frame.{Frame}
 use Rattle.disk_model.specs.Fault.{Rises}
+use Rattle.ogg_page.specs.declared.fault.PageFault.{PageFault}
+use Rattle.link_chain.specs.declared.chain_fault.ChainFault.{ChainFault}
+use Rattle.link_chain.specs.Recording.{Recording}
+use Rattle.gate_file.specs.declared.fault.OpenFault.TheVariants.{Disk, Memory, Page, Chain, Unfinished}
 use Rattle.gate_file.specs.Commit.{CommitsTo}
+use Rattle.file_recorder.specs.Recovery.{Shows}
 use Rattle.gate_file.specs.Found.{IsDamagedAt}
 use Rattle.gate_file.specs.Gate.{EndsAt}
 use Rattle.file_recorder.specs.Taking.{IsBrokenAt, IsUnfinished}
 use Rattle.record_actions.specs.Foreign.{IsForeign, front_of}
 use Rattle.archive_record.specs.declared.damage.Damage.{Damage}
+use Rattle.archive_record.specs.declared.damage.Damage.TheVariants.{Unreadable, Foreign, Open, Tail}
 use Rattle.record_actions.specs.Tail.{IsSoundAt, IsUnsoundAt}
-use Rattle.archive_record.specs.Opening.{IsLeftBy}
+use Rattle.archive_record.specs.Opening.{CanGoOn, IsLeftBy}
 
 rises_earlier : (first then now : ℕ) → first ≤ then → Rises then now → Rises first now
 rises_earlier first then now le rises = ⊎_elim (λ less. inl (omega (arith, le, less))) (λ top. inr top) rises
@@ -61,6 +67,35 @@ sound_there unique contents end other sound ends =
     let long : length (take end contents) ≡ end = length-take-le end contents sound.ends.within in
     let as_long : length (take other contents) ≡ other = length-take-le other contents ends.within in
     subst (λ (n : ℕ). IsSoundAt contents n) (sym long ∙ ap length same ∙ as_long) sound
+
+pub err_where : {R E : Type 0} (P Q : E → Type 0) (result : Result R E) → ((e : E) → P e → Q e) → IfErr result P → IfErr result Q
+err_where P Q (Ok r) each is = tt
+err_where P Q (Err e) each is = each e is
+
+-- what can be gone on with is refused only for want of memory, or by the disk
+module _ (unique : (b c image : List ℕ) → CommitsTo b image → CommitsTo c image → b ≡ c)
+    (damaged : (contents : List ℕ) (recording : Recording) → Shows contents recording → (offset : ℕ) (fault : PageFault) → IsDamagedAt contents offset fault → ⊥)
+    (broken : (contents : List ℕ) (recording : Recording) → Shows contents recording → (end : ℕ) → EndsAt contents end → (offset : ℕ) (fault : ChainFault)
+    → IsBrokenAt (take end contents) offset fault → ⊥)
+    (unfinished : (contents : List ℕ) (recording : Recording) → Shows contents recording → (end : ℕ) → EndsAt contents end → (serial : ℕ) → IsUnfinished (take end contents) serial → ⊥)
+    {D : Type 0} (model : DiskModel D) where
+  pub refused_only : (disk : D) (why : Damage) (back : D) → IsLeftBy model disk why back → model.is_honest disk → CanGoOn (model.state disk).contents
+      → (why ≡ Open Memory) ⊎ (why ≡ Open Disk)
+  refused_only disk Unreadable back left honest good = absurd (left.read refl)
+  refused_only disk Foreign back left honest good = absurd (good.own (left.foreign refl honest))
+  refused_only disk (Tail end) back left honest good =
+      let at = left.tail end refl honest in
+      absurd (at.tail (sound_there unique (model.state disk).contents good.end end good.sound at.ends).tail)
+  refused_only disk (Open Memory) back left honest good = inl refl
+  refused_only disk (Open Disk) back left honest good = inr refl
+  refused_only disk (Open (Page offset fault)) back left honest good =
+      absurd (damaged (model.state disk).contents good.recording good.shows offset fault (left.page offset fault refl honest))
+  refused_only disk (Open (Chain offset fault)) back left honest good =
+      let at = left.chain offset fault refl honest in
+      absurd (broken (model.state disk).contents good.recording good.shows at.0 at.1 offset fault at.2)
+  refused_only disk (Open (Unfinished serial)) back left honest good =
+      let at = left.unfinished serial refl honest in
+      absurd (unfinished (model.state disk).contents good.recording good.shows at.0 at.1 serial at.2)
 
 pub ok_where : {R E : Type 0} (P Q : R → Type 0) (result : Result R E) → ((r : R) → P r → Q r) → IfOk result P → IfOk result Q
 ok_where P Q (Ok r) each is = each r is

@@ -8,11 +8,22 @@ use Rattle.gate_file.specs.declared.fault.OpenFault.{OpenFault}
 use Rattle.gate_file.specs.declared.fault.OpenFault.TheVariants.{Disk, Page, Chain, Unfinished}
 use Rattle.gate_file.specs.Found.{IsDamagedAt}
 use Rattle.gate_file.specs.Gate.{EndsAt}
+use Rattle.link_chain.specs.Recording.{Recording}
+use Rattle.file_recorder.specs.Recovery.{Shows}
 use Rattle.file_recorder.specs.Taking.{IsBrokenAt, IsUnfinished}
 use Rattle.record_actions.specs.Foreign.{IsForeign, front_of}
-use Rattle.record_actions.specs.Tail.{IsUnsoundAt}
+use Rattle.record_actions.specs.Tail.{IsSoundAt, IsUnsoundAt}
 use Rattle.archive_record.specs.declared.damage.Damage.{Damage}
 use Rattle.archive_record.specs.declared.damage.Damage.TheVariants.{Unreadable, Foreign, Open, Tail}
+
+-- A file can be gone on with: it doesn't begin with bytes of another kind, its pages are links that hold a recording, and
+-- what follows them is what a stop may leave.
+pub record CanGoOn (contents : List ℕ) : Type 0 where
+  pub own : IsForeign (front_of contents) → ⊥
+  pub end : ℕ
+  pub sound : IsSoundAt contents end
+  pub recording : Recording
+  pub shows : Shows contents recording
 
 -- Why a file is left as it is, by what it holds. Unless its disk has failed it holds what it held.
 pub record IsLeftBy {D : Type 0} (model : DiskModel D) (disk : D) (why : Damage) (back : D) : Type 0 where

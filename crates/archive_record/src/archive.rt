@@ -3,7 +3,7 @@ ghost use Rattle.std.specs.Prelude.{◌≡◌};
 ghost use Rattle.archive_record.specs.Files.{AllKept};
 
 use crate::beside::Beside;
-use crate::ending::{Unended, end_open};
+use crate::ending::{Unended, end_open, end_streams};
 use crate::files::BeginFault;
 use crate::newest::Newest;
 use crate::rotation::{Rotation, Rules};
@@ -246,9 +246,9 @@ impl<D: Disk + Drop, F: Folder<File = D> + Drop> Archive<D, F> {
         }
     }
 
-    /// Ends the newest file, if there is one: what is open is ended, and the file is cut to its pages. Nothing writes it
-    /// again. Returns whether the next file goes on with it: if a link was open, and all of it was kept. It is none if the
-    /// disk has failed: then the newest stays.
+    /// Ends the newest file, if there is one: what is open is ended, that is kept with what waits, and the file is cut to
+    /// its pages, with two syncs. Nothing writes it again. Returns whether the next file goes on with it: if a link was
+    /// open, and all of it was kept. It is none if the disk has failed: then the newest stays.
     fn end_newest<B: Beside>(
         &mut self,
         import: &mut ImportRun,
@@ -258,34 +258,41 @@ impl<D: Disk + Drop, F: Folder<File = D> + Drop> Archive<D, F> {
         let Some(newest) = self.newest.take() else {
             return Ok(Some(false));
         };
+        let mut newest = newest;
         let serials = serials_of(self.alloc, &newest.recorder);
         let goes_on = is_open(newest.recorder.streams());
+        // The ends share one commit with what waits.
+        newest.recorder.hold_all();
+        let ended = end_streams(&mut newest.recorder);
+        let open_join = newest.open_join();
         let Newest {
-            name,
-            mut recorder,
-            join,
-        } = newest;
-        let ended = end_open(&mut recorder);
-        let newest = Newest {
             name,
             recorder,
             join,
-        };
-        if newest.recorder.is_failed() {
-            self.newest = Some(newest);
-            return Ok(None);
-        }
-        match ended {
-            Ok(()) => {
-                let end = newest.recorder.end();
-                self.rotation.tell_time(end, None, now, beside);
+        } = newest;
+        let end = recorder.length();
+        match self
+            .rotation
+            .end_group(name, recorder, open_join, now, beside)
+        {
+            Ok(()) => {}
+            Err(recorder) => {
+                self.newest = Some(Newest {
+                    name,
+                    recorder,
+                    join,
+                });
+                return Ok(None);
             }
-            Err(Unended::Refused(refusal)) => beside.refused(import.offset(), refusal),
-            Err(_) => beside.lost(import.offset(), newest.recorder.end()),
         }
-        let sealed = self.seal(newest, beside);
+        self.before = self.before.saturating_add(end);
+        match ended {
+            Ok(()) => {}
+            Err(Unended::Refused(refusal)) => beside.refused(import.offset(), refusal),
+            Err(_) => beside.lost(import.offset(), end),
+        }
         self.begins_again(import, serials)?;
-        Ok(Some(goes_on && ended.is_ok() && sealed))
+        Ok(Some(goes_on && ended.is_ok()))
     }
 
     /// What begins the link again that is open in the input, in a file that has none of these serials.

@@ -18,7 +18,7 @@ pub trait Beside {
     /// This line is appended to the times of the file that was opened or begun last.
     fn timed(&mut self, line: Line);
 
-    /// The file has ended, with so many bytes: nothing writes it again. Its times are synced.
+    /// The file has ended, with so many bytes: nothing writes it again. Its times are synced, but nothing waits for that.
     fn ended(&mut self, file: FileName, bytes: u64);
 
     /// What waited in the newest file is lost, as its disk has failed when the input was read up to this offset, and this

@@ -1,5 +1,5 @@
 //! What is open in a file is ended.
-ghost use Rattle.std.specs.Prelude.{◌≡◌, OnOk, Err, None, ⊤, false, true};
+ghost use Rattle.std.specs.Prelude.{◌≡◌, ◌≢◌, OnOk, Err, None, ⊤, false, true};
 ghost use Rattle.link_chain.specs.ChainState.{is_open};
 ghost use Rattle.ogg_command.specs.declared.refusal.Refusal.{Refusal as RefusalOf};
 ghost use Rattle.archive_record.specs.Resting.{IsAtRest};
@@ -29,14 +29,26 @@ pub fn end_open<D: Disk>(recorder: &mut Recorder<D>) -> Result<(), Unended>
     ensures failed { result ≡ Err Unended.Failed → recorder.new.file.failed ≡ true }
     ensures refused { (refusal : RefusalOf) → result ≡ Err (Unended.Refused refusal) → is_open recorder.new.chain ≡ true }
 {
+    let ended = end_streams(recorder);
+    if recorder.flush().is_err() {
+        return Err(Unended::Failed);
+    }
+    ended
+}
+
+/// Ends the streams that are open in the file. The ends may wait for their commit.
+///
+/// It is `Refused` for what refused the last end, also if that is the disk.
+pub fn end_streams<D: Disk>(recorder: &mut Recorder<D>) -> Result<(), Unended>
+    ensures ended { OnOk result (is_open recorder.new.chain ≡ false) }
+    ensures refused { (refusal : RefusalOf) → result ≡ Err (Unended.Refused refusal) → is_open recorder.new.chain ≡ true }
+    ensures flushed { result ≢ Err Unended.Failed }
+{
     let mut last = LastRefusal { refusal: None };
     let left = match end_open_streams(recorder, &mut last) {
         Ok(left) => left,
         Err(_) => return Err(Unended::Untold),
     };
-    if recorder.flush().is_err() {
-        return Err(Unended::Failed);
-    }
     if left {
         return match last.refusal {
             Some(refusal) => Err(Unended::Refused(refusal)),

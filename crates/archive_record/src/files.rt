@@ -126,6 +126,8 @@ impl<F: Folder> Files<F> {
             → F.names self.new.folder ≡ synced (made name.number (F.names self.old.folder))) }
         ensures empty { IfOk result (λ (name, disk). F.is_honest self.old.folder
             → F.File.is_honest disk × (F.File.state disk ≡ settled [])) }
+        // Also in a folder that isn't honest the file is a new one.
+        ensures fresh { IfOk result (λ (name, disk). F.File.is_honest disk → F.File.state disk ≡ settled []) }
         // After a fault nothing is handed out.
         ensures none { OnErr result ((self.new.files ≡ self.old.files) × (self.new.out ≡ None)) }
         ensures unused { (result ≡ Err BeginFault.Numbers) ↔ (self.old.next ≡ None) }

@@ -1,7 +1,8 @@
 //! How a file is begun, opened and ended.
-ghost use Rattle.std.specs.Prelude.{◌≡◌, ◌≢◌, ◌<◌, [], ℕ, IfOk, IfSome, OnErr, None, Some, Ok, Err, true, false};
+ghost use Rattle.std.specs.Prelude.{◌≡◌, ◌≢◌, ◌<◌, ◌++◌, [], ℕ, IfOk, IfErr, IfSome, OnOk, OnErr, None, Some, Ok, Err, true, false};
+ghost use Rattle.disk_model.specs.Image.{settled};
 ghost use Rattle.archive_folder.specs.Names.{made, synced};
-ghost use Rattle.file_recorder.specs.Recorder.{committed};
+ghost use Rattle.file_recorder.specs.Recorder.{committed, staged};
 ghost use Rattle.archive_record.specs.Files.{highest};
 ghost use Rattle.archive_record.specs.Filing.{HasExactly};
 ghost use Rattle.archive_record.specs.Resting.{IsAtRest};
@@ -152,6 +153,39 @@ pub(crate) fn end_file<D: Disk + Drop, F: Folder<File = D>>(
     }
 }
 
+/// Commits what waits in the file, cuts it to its pages and gives it back, with two syncs. After a fault the recorder is
+/// handed back, which has failed.
+pub(crate) fn end_group<D: Disk + Drop, F: Folder<File = D>>(
+    files: &mut Files<F>,
+    name: FileName,
+    recorder: Recorder<D>,
+) -> Result<(), Recorder<D>>
+    requires { files.old.out ≡ Some name.number }
+    // A file that has ended has what was committed and what waited, whatever stops, and nothing else.
+    ensures ended { OnOk result (F.is_honest files.old.folder → D.is_honest recorder.file.disk
+        → HasExactly D.Disk (F.file files.new.folder) name.number (committed D.state recorder ++ staged D.state recorder)) }
+    ensures failed { IfErr result (λ back. back.file.failed ≡ true) }
+    ensures front { D.is_honest recorder.file.disk → IfErr result (λ back. committed D.state back ≡ committed D.state recorder) }
+    ensures none { OnOk result (files.new.out ≡ None) }
+    ensures same { OnErr result (files.new ≡ files.old) }
+    ensures files { files.new.files ≡ files.old.files }
+    ensures next { files.new.next ≡ files.old.next }
+    ensures names { F.is_honest files.old.folder → F.names files.new.folder ≡ F.names files.old.folder }
+    ensures others { F.is_honest files.old.folder
+        → (n : ℕ) → n ≢ name.number → F.file files.new.folder n ≡ F.file files.old.folder n }
+{
+    if recorder.is_failed() {
+        return Err(recorder);
+    }
+    match recorder.flush_and_seal() {
+        Ok(disk) => {
+            files.give_back(name.number, disk);
+            Ok(())
+        }
+        Err((DiskFault, recorder)) => Err(recorder),
+    }
+}
+
 /// Ends what is open in a file, and lets this many commands share a commit from then on. If that can't be done the
 /// recorder is given back as an error.
 pub(crate) fn ended<D: Disk + Drop>(
@@ -177,13 +211,14 @@ pub(crate) fn first_recorder<D: Disk + Drop, F: Folder<File = D>>(
     disk: D,
     most: u32,
 ) -> Result<Recorder<D>, ArchiveFault>
-    requires { files.old.out ≡ Some name.number }
+    requires out { files.old.out ≡ Some name.number }
+    requires fresh { D.is_honest disk → D.state disk ≡ settled [] }
     ensures works { IfOk result (λ recorder. (recorder.held ≡ 0) × (recorder.file.failed ≡ false)) }
     ensures same { IfOk result (λ recorder. files.new ≡ files.old) }
     ensures none { OnErr result (files.new.out ≡ None) }
     ensures memory { result ≢ Err ArchiveFault.Numbers }
 {
-    match Recorder::open(alloc, disk) {
+    match Recorder::open_empty(alloc, disk) {
         Ok(recorder) => {
             let mut recorder = recorder;
             recorder.group(most.clamp(1, 1024));

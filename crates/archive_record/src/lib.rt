@@ -28,7 +28,7 @@ pub use archive::{Archive, ArchiveFault};
 pub use archive_folder::FileName;
 pub use beside::Beside;
 pub use damage::Damage;
-pub use ending::{Unended, end_open};
+pub use ending::{Unended, end_open, end_streams};
 pub use files::{BeginFault, Files};
 pub use naming::{ArchiveNames, name_of, text_of};
 pub use opening::open_sound;

@@ -1,15 +1,17 @@
 //! Which file can be gone on with.
-ghost use Rattle.std.specs.Prelude.{◌≡◌, ℕ, IfOk, IfErr, take, false};
+ghost use Rattle.std.specs.Prelude.{◌≡◌, ◌⊎◌, ℕ, IfOk, IfErr, take, false};
 ghost use Rattle.disk_model.specs.Frame.{Frame};
 ghost use Rattle.file_recorder.specs.Recorder.{committed};
+ghost use Rattle.file_recorder.specs.Taking.{HoldsChain};
 ghost use Rattle.gate_file.specs.Gate.{EndsAt};
+ghost use Rattle.gate_file.specs.declared.fault.OpenFault.{OpenFault as OpenFaultOf};
 ghost use Rattle.record_actions.specs.Foreign.{IsForeign, front_of};
 ghost use Rattle.record_actions.specs.Tail.{IsSoundAt};
-ghost use Rattle.archive_record.specs.Opening.{IsLeftBy};
+ghost use Rattle.archive_record.specs.Opening.{CanGoOn, IsLeftBy};
 
 use crate::damage::Damage;
 use disk_model::{Disk, DiskFault};
-use file_recorder::Recorder;
+use file_recorder::{Recorder, what_shows_a_recording_is_opened};
 use gate_file::{OpenFault, committed_bytes_are_unique};
 use record_actions::{find_tail, is_foreign};
 use std::alloc::Global;
@@ -26,9 +28,15 @@ pub fn open_sound<D: Disk + Drop>(alloc: Global, disk: D) -> Result<Recorder<D>,
         × (IsForeign (front_of (D.state disk).contents) → ⊥)) }
     ensures commits { IfOk result (λ r. D.is_honest disk → committed D.state r ≡ take r.file.end (D.state disk).contents) }
     ensures left { IfErr result (λ (why, back). IsLeftBy D.Disk disk why back) }
+
+    // Exactly what can be gone on with is opened, unless memory is refused or the disk fails.
+    ensures good { IfOk result (λ r. D.is_honest disk → CanGoOn (D.state disk).contents) }
+    ensures each { IfErr result (λ (why, back). D.is_honest disk → CanGoOn (D.state disk).contents
+        → (why ≡ Damage.Open OpenFaultOf.Memory) ⊎ (why ≡ Damage.Open OpenFaultOf.Disk)) }
 {
     // For the proof alone.
     committed_bytes_are_unique();
+    what_shows_a_recording_is_opened();
     match with_own(disk) {
         Ok(disk) => match with_sound_tail(alloc, disk) {
             Ok(disk) => recorder_on(alloc, disk),
@@ -74,6 +82,7 @@ fn recorder_on<D: Disk + Drop>(alloc: Global, disk: D) -> Result<Recorder<D>, (D
     ensures fresh { IfOk result (λ r. (r.file.failed ≡ false) × (r.held ≡ 0)) }
     ensures ends { IfOk result (λ r. D.is_honest disk → EndsAt (D.state disk).contents r.file.end
         × (committed D.state r ≡ take r.file.end (D.state disk).contents)) }
+    ensures holds { IfOk result (λ r. D.is_honest disk → HoldsChain (committed D.state r) r.chain) }
     ensures left { IfErr result (λ (why, back). IsLeftBy D.Disk disk why back) }
 {
     match Recorder::open(alloc, disk) {

@@ -1,7 +1,10 @@
 //! The files of a folder, begun and ended in turn: the next one is begun when the newest is over, and old ones go.
-ghost use Rattle.std.specs.Prelude.{◌≡◌, ◌/◌, ◌⊎◌, ◌↔◌, IfOk, IfSome, IsTrue, None, Some, false};
+ghost use Rattle.std.specs.Prelude.{◌≡◌, [], ◌/◌, ◌⊎◌, ◌↔◌, ◌++◌, IfOk, IfErr, IfSome, IsTrue, OnOk, OnErr, None, Some, true, false};
+ghost use Rattle.disk_model.specs.Image.{settled};
 ghost use Rattle.archive_names.specs.Plan.{IsOver};
+ghost use Rattle.file_recorder.specs.Recorder.{committed, staged};
 ghost use Rattle.archive_record.specs.Files.{AllKept};
+ghost use Rattle.archive_record.specs.Filing.{HasExactly};
 ghost use Rattle.archive_record.specs.Resting.{IsAtRest};
 ghost use Rattle.archive_record.specs.Rotating.{with_period};
 ghost use Rattle.archive_record.specs.Spelling.{name_of};
@@ -10,7 +13,7 @@ use crate::archive::ArchiveFault;
 use crate::beside::Beside;
 use crate::damage::Damage;
 use crate::files::{BeginFault, Files};
-use crate::filing::{Left, end_file, first_recorder, give_back, open_last, open_newest};
+use crate::filing::{Left, end_file, end_group, first_recorder, give_back, open_last, open_newest};
 use crate::naming::name_of;
 use archive_folder::{FileName, Folder};
 use archive_names::{Held, Keeping, Limits, is_over};
@@ -156,7 +159,9 @@ impl<D: Disk + Drop, F: Folder<File = D> + Drop> Rotation<F> {
         begun: i64,
         goes_on: bool,
         beside: &mut B,
-    ) -> Result<(FileName, D), ArchiveFault> {
+    ) -> Result<(FileName, D), ArchiveFault>
+        ensures fresh { IfOk result (λ (file, disk). D.is_honest disk → D.state disk ≡ settled []) }
+    {
         let mut goes_on = goes_on;
         for _ in 0..self.tries() {
             if !self.files.is_free() {
@@ -184,6 +189,7 @@ impl<D: Disk + Drop, F: Folder<File = D> + Drop> Rotation<F> {
         disk: D,
         beside: &mut B,
     ) -> Result<Recorder<D>, ArchiveFault>
+        requires { D.is_honest disk → D.state disk ≡ settled [] }
         ensures works { IfOk result (λ recorder. (recorder.held ≡ 0) × (recorder.file.failed ≡ false)) }
     {
         if !self.files.is_out(name.number) {
@@ -229,6 +235,36 @@ impl<D: Disk + Drop, F: Folder<File = D> + Drop> Rotation<F> {
             beside.damaged(name, Damage::Open(OpenFault::Disk));
             false
         }
+    }
+
+    /// Commits what waits in a file and ends it, with two syncs in all: it is cut to its pages and given back, and nothing
+    /// writes it again. Its last line of times is written, which says where the link is joined that is open, if one is.
+    /// After a fault the recorder is handed back, which has failed, and what waited is lost.
+    pub fn end_group<B: Beside>(
+        &mut self,
+        name: FileName,
+        recorder: Recorder<D>,
+        join: Option<Join>,
+        now: u64,
+        beside: &mut B,
+    ) -> Result<(), Recorder<D>>
+        ensures failed { self.old.files.out ≡ Some name.number → IfErr result (λ back. back.file.failed ≡ true) }
+        // What was kept before is kept, and every stop leaves what waited as a whole or not at all.
+        ensures front { D.is_honest recorder.file.disk → IfErr result (λ back. committed D.state back ≡ committed D.state recorder) }
+        // A file that has ended has what was committed and what waited, whatever stops, and nothing else.
+        ensures ended { OnOk result (F.is_honest self.old.files.folder → D.is_honest recorder.file.disk
+            → HasExactly D.Disk (F.file self.new.files.folder) name.number (committed D.state recorder ++ staged D.state recorder)) }
+        ensures free { OnOk result (self.new.files.out ≡ None) }
+        ensures same { OnErr result (self.new ≡ self.old) }
+    {
+        let end = recorder.length();
+        if !self.files.is_out(name.number) {
+            return Err(recorder);
+        }
+        end_group(&mut self.files, name, recorder)?;
+        self.tell_time(end, join, now, beside);
+        beside.ended(name, end);
+        Ok(())
     }
 
     /// Ends the file that wasn't ended, as long as that fails for want of room alone, and files are left that may go.

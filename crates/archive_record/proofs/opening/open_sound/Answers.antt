@@ -1,7 +1,8 @@
-use Rattle.std.proofs.Common.{◌≡◌, ◌∙◌, ap, subst, List, ℕ}
+use Rattle.std.proofs.Common.{◌≡◌, ◌∙◌, ap, subst, sym, take, List, ℕ}
 use Rattle.gate_file.specs.Gate.{EndsAt}
 use Rattle.record_actions.specs.Tail.{IsSoundAt}
-use Rattle.archive_record.proofs.Left.{err_after, left_after, frame_after, ok_where, sound_there}
+use Rattle.file_recorder.specs.Taking.{HoldsChain}
+use Rattle.archive_record.proofs.Left.{err_after, err_where, left_after, frame_after, ok_where, refused_only, sound_there}
 use Rattle.archive_record.proofs.opening.open_sound.Goals as goal
 
 pub returns-in-Ok-with_sound_tail-clause-left : goal.returns-in-Ok-with_sound_tail-clause-left
@@ -27,3 +28,19 @@ returns-in-Ok-with_sound_tail-clause-sound g c = ok_where _ _ c.recorder_on.resu
       own.1,
     ))
     c.recorder_on.ensures.ends
+
+pub returns-in-Ok-with_sound_tail-clause-each : goal.returns-in-Ok-with_sound_tail-clause-each
+returns-in-Ok-with_sound_tail-clause-each g c =
+    let law = c.what_shows_a_recording_is_opened.ensures in
+    err_where _ _ c.recorder_on.result (λ e left honest good. refused_only c.committed_bytes_are_unique.ensures law.damaged law.broken law.unfinished g.D.Disk c.args.disk e.0 e.1 left honest good)
+    (returns-in-Ok-with_sound_tail-clause-left g c)
+
+pub returns-in-Err-with_sound_tail-clause-each : goal.returns-in-Err-with_sound_tail-clause-each
+returns-in-Err-with_sound_tail-clause-each g c = λ honest good.
+    let law = c.what_shows_a_recording_is_opened.ensures in
+    refused_only c.committed_bytes_are_unique.ensures law.damaged law.broken law.unfinished g.D.Disk c.args.disk _ _ (returns-in-Err-with_sound_tail-clause-left g c) honest good
+
+pub returns-in-Err-clause-each : goal.returns-in-Err-clause-each
+returns-in-Err-clause-each g c = λ honest good.
+    let law = c.what_shows_a_recording_is_opened.ensures in
+    refused_only c.committed_bytes_are_unique.ensures law.damaged law.broken law.unfinished g.D.Disk c.args.disk _ _ c.in-Err.ensures.left honest good
