@@ -1,32 +1,28 @@
 #!/usr/bin/env bash
-# Measures `cut` of an archive: ten seconds out of 10,000 files, beside `ls` of the folder, and all of a recording in pages
-# of 4 kB over files that go on with one another, beside `cp` with a sync of as many bytes. CPU seconds (user and system)
-# and seconds by the clock are the best of three runs that take turns; kB are the most memory that a run had. Not part of
-# the tests.
+# Measures `cut` of an archive: ten seconds out of 10,000 files, beside `ls` of the folder, `list` of them, beside `ls -l`,
+# and all of a recording in pages of 4 kB over files that go on with one another, beside `cp` with a sync of as many bytes,
+# and beside a program that reads and writes them. CPU seconds (user and system) and seconds by the clock are the best of
+# three runs that take turns; kB are the most memory that a run had. Not part of the tests.
 #
 #     apt-get install libogg-dev && bench/cut.sh [BYTES]      none: 1000000000
 #
 # The files are made below TMPDIR, or /tmp: choose a folder on the disk that is to be measured.
 . "$(dirname "$0")/common.bash"
 bytes=${1:-1000000000}
-# The name `program` is set anew by some wrappers of python3.
-export recorder=$archive work
-
 built "$archive"
 cc -O2 -o "$work/pages_made" "$here/pages_made.c" -logg || exit 1
+cc -O2 -o "$work/measured" "$here/measured.c" || exit 1
 
-# took FILE COMMAND ..: adds the CPU seconds, the seconds by the clock and the kB that the command took.
+# took FILE OUTPUT COMMAND ..: adds the CPU seconds, the seconds by the clock and the kB that the command took, with a sync
+# of its output if that is a file that stays.
 took() {
-    local file=$1
-    shift
-    python3 - "$@" >>"$file" <<'END'
-import resource, subprocess, sys, time
-begun = time.monotonic()
-subprocess.run(sys.argv[1:], check=True, stdin=subprocess.DEVNULL, stderr=subprocess.DEVNULL)
-took = time.monotonic() - begun
-spent = resource.getrusage(resource.RUSAGE_CHILDREN)
-print(f"{spent.ru_utime + spent.ru_stime:.4f} {took:.4f} {spent.ru_maxrss}")
-END
+    local file=$1 output=$2 begun spent more
+    shift 2
+    begun=$EPOCHREALTIME
+    spent=$("$work/measured" "$output" /dev/null "$@" 2>"$work/err")
+    more="0 0"
+    [ "${output##*.}" != ogg ] || more=$("$work/measured" /dev/null /dev/null /bin/sync "$output")
+    echo "$spent $more $begun $EPOCHREALTIME" | awk '{ printf "%.3f %.4f %d\n", $1 + $3, $6 - $5, $2 }' >>"$file"
 }
 
 # least FILE COLUMN: the least.
@@ -57,14 +53,23 @@ for number in range(1, 10001):
         out.writelines(lines)
 END
 for _ in 1 2 3; do
-    took "$work/ten.s" bash -c '"$recorder" cut "$work/many" --since 2021-08-01T10:00:10Z --until 2021-08-01T10:00:20Z >"$work/ten.ogg"'
-    took "$work/ls.s" bash -c 'ls "$work/many" >"$work/names"'
+    took "$work/ten.s" "$work/ten" "$archive" cut "$work/many" --since 2021-08-01T10:00:10Z --until 2021-08-01T10:00:20Z
+    took "$work/ls.s" "$work/names" /bin/ls "$work/many"
+    took "$work/list.s" "$work/list" "$archive" list "$work/many"
+    took "$work/long.s" "$work/long" /bin/ls -l "$work/many"
 done
-[ "$("$archive" links "$work/ten.ogg" | grep -c '^link')" = 1 ] || exit 1
-row '`cut`, ten seconds of 10,000 files' s "$(least "$work/ten.s" 2)" '`ls` of the folder' "$(least "$work/ls.s" 2)"
-row '`cut`, ten seconds of 10,000 files' kB "$(least "$work/ten.s" 3)" '`ls` of the folder' "$(least "$work/ls.s" 3)"
-printf 'ten seconds of 10,000 files: %s s, %s kB; ls %s s, %s kB\n' "$(least "$work/ten.s" 2)" "$(least "$work/ten.s" 3)" \
-    "$(least "$work/ls.s" 2)" "$(least "$work/ls.s" 3)"
+[ "$("$archive" links "$work/ten" | grep -c '^link')" = 1 ] && [ "$(grep -c '^file' "$work/list")" = 10000 ] || exit 1
+# both NAME OURS COMPETITOR THEIRS: rows of the CPU seconds, the seconds and the kB.
+both() {
+    local column unit
+    for column in 1 2 3; do
+        unit=$(echo 'CPU s:s:kB' | cut -d : -f $column)
+        row "$1" "$unit" "$(least "$2" $column)" "$3" "$(least "$4" $column)"
+        printf '%s (%s): %s, %s %s\n' "$1" "$unit" "$(least "$2" $column)" "$3" "$(least "$4" $column)"
+    done
+}
+both '`cut`, ten seconds of 10,000 files' "$work/ten.s" '`ls` of the folder' "$work/ls.s"
+both '`list` of 10,000 files, each with its times' "$work/list.s" '`ls -l` of the folder' "$work/long.s"
 rm -rf "$work/many"
 
 # ---- all of a recording
@@ -74,13 +79,14 @@ rm "$work/file"
 for _ in 1 2 3; do
     rm -f "$work/out.ogg" "$work/copy.ogg"
     sync
-    took "$work/cut.s" bash -c '"$recorder" cut "$work/all" >"$work/out.ogg" && sync "$work/out.ogg"'
-    took "$work/cp.s" bash -c 'cp "$work/out.ogg" "$work/copy.ogg" && sync "$work/copy.ogg"'
+    took "$work/cut.s" "$work/out.ogg" "$archive" cut "$work/all"
+    took "$work/cp.s" "$work/copied" /bin/cp "$work/out.ogg" "$work/copy.ogg"
+    took "$work/sync.s" "$work/copied" /bin/sync "$work/copy.ogg"
+    # What any program takes that reads the bytes and writes them.
+    took "$work/dd.s" "$work/dd.ogg" /bin/dd if="$work/copy.ogg" bs=256K
 done
 [ "$("$archive" links "$work/out.ogg" | grep -c '^link')" = 1 ] || exit 1
-for column in 1 2; do
-    unit=$([ $column = 1 ] && echo CPU s || echo s)
-    row '`cut`, all of a recording' "$unit" "$(least "$work/cut.s" $column)" 'cp and a sync' "$(least "$work/cp.s" $column)"
-    printf '%.0f MB in %s files: %s s, cp and a sync %s s (%s)\n' "$((bytes / 1000000))" "$(ls "$work/all" | grep -c ogg)" \
-        "$(least "$work/cut.s" $column)" "$(least "$work/cp.s" $column)" "$unit"
-done
+paste -d ' ' "$work/cp.s" "$work/sync.s" | awk '{ printf "%.3f %.4f %d\n", $1 + $4, $2 + $5, $3 }' >"$work/both.s"
+name="\`cut\`, all of $((bytes / 1000000)) MB in $(ls "$work/all" | grep -c 'ogg$') files"
+both "$name" "$work/cut.s" 'cp and a sync' "$work/both.s"
+both "$name" "$work/cut.s" 'dd and a sync' "$work/dd.s"

@@ -1,15 +1,18 @@
 #!/usr/bin/env bash
 # Checks real media with independent tools after `archive` into a folder, over files of two seconds, and `cut`: what
 # encoders made is recorded at its own pace; the cut of all of it, and of a time within, sounds and shows what the
-# encoder's file does, sample by sample and frame by frame, as one link. Not part of the tests that ./check runs, since it
-# installs packages.
+# encoder's file does, sample by sample and frame by frame, as one link. ffmpeg, mpv, oggz, ogginfo and a browser take it
+# without a word that they don't say of the encoder's file. Not part of the tests that ./check runs, since it installs
+# packages.
 #
 #     tests/cut_media.sh        the last line is 'N passed, M failed'
 . "$(dirname "$0")/helpers/common.bash"
 . "$(dirname "$0")/helpers/installing.bash"
 
-tools=(ffmpeg ogginfo oggz)
-needs "${tools[@]}" -- ffmpeg vorbis-tools oggz-tools || has "${tools[@]}" || exit 1
+tools=(ffmpeg ogginfo oggz mpv)
+needs "${tools[@]}" -- ffmpeg vorbis-tools oggz-tools mpv || has "${tools[@]}" || exit 1
+command -v google-chrome >"$work/which" || needs chromium -- chromium
+browser=$(command -v chromium || command -v google-chrome) || echo "no chromium: left out"
 
 encode() { ffmpeg -nostdin -loglevel error -y "$@"; }
 
@@ -21,12 +24,16 @@ encode "${sound[@]}" -c:a libopus -serial_offset 2 "$work/opus.ogg"
 encode "${sound[@]}" -c:a flac -serial_offset 3 "$work/flac.ogg"
 encode "${bars[@]}" "${sound[@]}" -c:v libtheora -g 25 -c:a libvorbis -serial_offset 4 "$work/theora.ogg"
 
-# What is told of a file by others. Serials and numbers of streams are left out, and that frames come before the first key
-# frame, as in any cut that begins within a film.
+# What is told of a file by others. Serials and numbers of streams are left out, that frames come before the first key
+# frame, as in any cut that begins within a film, and that samples of FLAC begin at a position above 0, which mpv tells.
 told_of() {
     ogginfo "$1" | grep -i 'warning\|error' | sed 's/serial: [0-9a-f]*//; s/stream ([0-9]*)/stream/'
     oggz validate "$1" 2>&1 | grep -v "^$1" | sed 's/serialno [0-9]*//; s/^[0-9:.]* *//' | sort -u
     ffmpeg -nostdin -loglevel warning -i "$1" -f null - 2>&1 | sed 's/ @ 0x[0-9a-f]*//' | grep -v 'first frame not a keyframe' | sort -u
+    mpv --no-config --ao=null --ao-null-untimed=yes --vo=null --untimed=yes --msg-level=all=warn "$1" </dev/null 2>&1 |
+        tr -d '\r' | grep -v 'first frame not a keyframe\|^Invalid audio PTS: 0\.' | sort -u
+    mpv --no-config --ao=null --ao-null-untimed=yes --vo=null --untimed=yes --really-quiet "$1" </dev/null
+    echo "mpv ended with $?"
 }
 no_more_told() { [ -z "$(comm -13 <(told_of "$1" | sort -u) <(told_of "$2" | sort -u))" ]; }
 streams_in() { ogginfo "$1" | grep -c '^New logical stream'; }
@@ -59,6 +66,9 @@ for name in vorbis opus flac theora; do
         check "$name, $part: it sounds the same" python3 "$here/sounding.py" sound "$work/$name.ogg" "$cut" $part
         [ $name != theora ] || check "$name, $part: it shows the same" python3 "$here/sounding.py" frames "$work/$name.ogg" "$cut" $part
     done
+    # No browser shows Theora any more.
+    [ -z "$browser" ] || [ $name = theora ] || check "$name: it plays in a browser" \
+        timeout 300 python3 "$here/browsed.py" "$browser" "$work/$name.ogg" "$work/$name.all.ogg" "$work/$name.within.ogg"
 done
 
 finish

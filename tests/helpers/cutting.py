@@ -3,6 +3,8 @@
 
     cutting.py cuts PROGRAM COUNT       COUNT random pairs of times, over archives that are made by hand
     cutting.py parts PROGRAM COUNT      COUNT random divisions of time: the parts together have each packet once
+    cutting.py clocks PROGRAM COUNT     the same of archives whose clock stood still, went back or ran ahead, and COUNT pairs
+    cutting.py growing PROGRAM          an archive that is recorded, with restarts, while it is cut: parts of the time so far
     cutting.py odd PROGRAM              times that are missing, torn or wrong, files that are damaged or gone, clocks
     cutting.py meeting PROGRAM          two files of which the second goes on with the first, or doesn't for one reason
 
@@ -344,13 +346,15 @@ def begun_again(rng, file, streams, serial):
     return [(serial + at, headers) for at, headers in enumerate(going)]
 
 
-def recorded(rng, folder, count=None):
-    """An archive of files of two seconds and some links; it is saved."""
+def recorded(rng, folder, count=None, jumps=False):
+    """An archive of files of two seconds and some links; it is saved. With jumps its clock is set at times."""
     when, number, serial = START + rng.randrange(1000), 1, 100
     files = [File(1, when)]
     file, streams, skeleton, position, packet = files[0], [], None, 0, 0
     for _ in range(count or rng.randrange(5, 120)):
         when += rng.choice([0, 0, 30, 200, 400, 1100, 1100, 12000 if rng.random() < 0.1 else 90])
+        if jumps and rng.random() < 0.1:
+            when = max(when + rng.choice([-300, -1500, -4000, -90000, 20000, 3600000]), START - 200000)
         if when // 2000 != file.begin // 2000:
             # The next file, which goes on with the link if one is open.
             goes_on = file.is_open() and rng.random() < 0.9
@@ -422,12 +426,23 @@ def cuts(program, count):
                 count -= 1
 
 
-def parts(program, count):
+def clocks(program, count):
+    rng = random.Random(66)
+    while count > 0:
+        with tempfile.TemporaryDirectory() as folder:
+            archive = Archive(program, folder, recorded(rng, folder, 80, True))
+            for _ in range(min(20, count)):
+                since, until = sorted([a_time(rng, archive.files), a_time(rng, archive.files)])
+                archive.compare(since if rng.random() < 0.9 else None, until if rng.random() < 0.9 else None)
+                count -= 1
+
+
+def parts(program, count, jumps=False):
     """Each packet is in one part, in its order."""
     rng = random.Random(64)
     for _ in range(count):
         with tempfile.TemporaryDirectory() as folder:
-            archive = Archive(program, folder, recorded(rng, folder))
+            archive = Archive(program, folder, recorded(rng, folder, jumps=jumps))
             times = sorted(a_time(rng, archive.files) for _ in range(rng.randrange(1, 6)))
             bounds = [None, *times, None]
             found = []
@@ -484,6 +499,51 @@ def odd(program):
                 want = archive.want(since, until)
                 ran = archive.run(since, until, "--raw")
                 assert (ran.returncode, links_in(ran.stdout)) == (0 if want else 1, want), (kind, ran.stderr, links_in(ran.stdout), want)
+
+
+def growing(program):
+    """What is sent at a known pace is recorded into files of two seconds, by programs that are stopped. What is cut from the
+    moment of each cut to that of the next, while it is recorded, has each packet once, in order."""
+    with tempfile.TemporaryDirectory() as folder:
+        told_at, found, sent, cut = [None], [], 0, 0
+
+        def cut_up_to(until):
+            nonlocal cut
+            words = [program, "cut", f"{folder}/kept", *(["--since", told(told_at[-1])] if told_at[-1] is not None else [])]
+            words += ["--until", told(until)] if until is not None else []
+            ran = subprocess.run(words, capture_output=True, timeout=60)
+            assert ran.returncode == 0 or (ran.returncode, ran.stdout) == (1, b""), ran
+            assert ran.returncode == 0 or ran.stderr.endswith(b"fault cut 1 Nothing\n"), ran
+            for link in links_in(ran.stdout):
+                for _, packets in link:
+                    found.extend(packet for packet in packets if packet.startswith(b"packet "))
+            told_at.append(until)
+            cut += ran.returncode == 0
+
+        for run in range(4):
+            words = [program, "archive", f"{folder}/kept/", "--every", "2s"]
+            with open(f"{folder}/err", "ab") as err:
+                recorder = subprocess.Popen(words, stdin=subprocess.PIPE, stderr=err)
+            serial = 1000 + run
+            recorder.stdin.write(page(2, 0, serial, 0, [4], b"head"))
+            end = time.monotonic() + 3.3
+            number = 0
+            while time.monotonic() < end:
+                number += 1
+                body = b"packet %d" % sent
+                recorder.stdin.write(page(0, 960 * number, serial, number, [len(body)], body))
+                recorder.stdin.flush()
+                sent += 1
+                time.sleep(0.02)
+                if number % 20 == 0:
+                    # A line of times may be written late.
+                    cut_up_to(int(time.time() * 1000) - 1500)
+            recorder.stdin.close()
+            assert recorder.wait(30) == 0
+        cut_up_to(None)
+        assert cut > 9, cut
+        assert len([name for name in os.listdir(f"{folder}/kept") if name.endswith(".ogg")]) >= 6
+        assert found == [b"packet %d" % at for at in range(sent)], (sent, len(found), found[:3], found[-3:])
 
 
 def meeting(program):
@@ -570,6 +630,11 @@ def main():
             meeting(sys.argv[2])
         elif sys.argv[1] == "parts":
             parts(sys.argv[2], int(sys.argv[3]))
+        elif sys.argv[1] == "clocks":
+            clocks(sys.argv[2], int(sys.argv[3]))
+            parts(sys.argv[2], int(sys.argv[3]) // 10, True)
+        elif sys.argv[1] == "growing":
+            growing(sys.argv[2])
         else:
             odd(sys.argv[2])
     except AssertionError as fault:

@@ -1,6 +1,6 @@
 -- The streams that go on with one another, by what the heads of pages leave of them.
-use Rattle.std.proofs.Common.{◌≡◌, ℕ, ◌+◌, ◌-◌, Bool, true, List, [], ◌∷◌, ◌++◌, Some, length, map, refl, sym, ◌∙◌, ap, arith, eq-eqb, inl, inr}
-use Rattle.std.specs.Prelude.{nat_eq, not, ◌||◌, find, zip}
+use Rattle.std.proofs.Common.{◌≡◌, ℕ, ◌+◌, ◌-◌, Bool, true, List, [], ◌∷◌, Some, length, map, refl, sym, ◌∙◌, ap, arith, eq-eqb, inl, inr}
+use Rattle.std.specs.Prelude.{nat_eq, not, ◌||◌, find}
 use Rattle.std.specs.List.{AllByRecursion, filter, flat_map, list_any}
 use Rattle.std.proofs.lemmas.Bool.{cases_Bool, cases_eq, cond-true, cond-false, false≢true, ne_eqb}
 use Rattle.std.proofs.lemmas.List.{append-nil}

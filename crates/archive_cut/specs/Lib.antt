@@ -11,5 +11,6 @@ pub mod CutFault
 pub mod Heads
 pub mod Starting
 pub mod Placing
+pub mod Stretch
 pub mod Ways
 pub mod Continuing

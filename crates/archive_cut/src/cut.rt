@@ -1,5 +1,5 @@
 //! A cut: what is still to be given of it.
-ghost use Rattle.std.specs.Prelude.{◌≡◌, ◌≢◌, ◌≤◌, ◌<◌, ℕ, List, [], ◌++◌, Err, length, min, take, drop, IfOk, IsErr, OnErr};
+ghost use Rattle.std.specs.Prelude.{false, ◌≡◌, ◌≢◌, ◌≤◌, ◌<◌, ℕ, List, [], ◌++◌, Err, length, min, take, drop, IfOk, IsErr, OnErr};
 ghost use Rattle.std.specs.List.{AllByRecursion};
 ghost use Rattle.ogg_page.specs.Page.{Page, IsPage};
 ghost use Rattle.ogg_page.specs.Window.{KeepsSource};
@@ -7,7 +7,8 @@ ghost use Rattle.link_chain.specs.ChainState.{chain_state_of};
 ghost use Rattle.link_chain.specs.Links.{AreLinks};
 ghost use Rattle.serve_live.specs.Hearing.{IsHearing};
 ghost use Rattle.serve_live.specs.Joined.{IsNew};
-ghost use Rattle.serve_live.specs.Listening.{HasFailed};
+ghost use Rattle.serve_live.specs.Gaps.{gap_in};
+ghost use Rattle.serve_live.specs.Listening.{HasFailed, ListenerState};
 ghost use Rattle.serve_live.specs.Live.{Moment};
 ghost use Rattle.serve_live.specs.Places.{IsPlaceIn};
 ghost use Rattle.archive_cut.specs.Cut.{HasNumbers, ends_of};
@@ -172,6 +173,7 @@ impl Cut {
         ensures cuts { (moment : Moment) (committed : List ℕ) (links : List (List Page)) → IsHearing moment committed listener []
             → length committed ≡ end → AreLinks committed links → streams.now ≡ (chain_state_of links).streams
             → IsSameLink moment committed same → IfOk result (λ cut. IsCutting moment committed cut []) }
+        ensures kept { IfOk result (λ cut. (cut.listener ≡ listener) × (cut.end ≡ end)) }
         // A stream that is open has no number left.
         ensures numbers { result ≡ Err CutFault.NoNumber → AllByRecursion IsPage (ends_of streams.now) → ⊥ }
         // Nothing is read.
@@ -217,17 +219,32 @@ impl Cut {
         }
     }
 
-    /// The cut of a file from a place where no link is open up to another, without the pages that end what is open there.
-    pub fn open_from(alloc: Global, start: u64, end: u64) -> Cut
-        ensures listener { IsNew start 0 start [] result.listener }
-        ensures rest { (result.end ≡ end) × (result.text ≡ []) }
+    /// The cut of a file from a place where no link is open up to another, by the streams of the file's last link there, as
+    /// the heads of its pages leave them (`take_page`). Memory is taken for a page for each that is open.
+    pub fn waits(
+        alloc: Global,
+        start: u64,
+        end: u64,
+        streams: &[StreamState],
+    ) -> Result<Cut, CutFault>
+        ensures listener { IfOk result (λ cut. IsNew start 0 start [] cut.listener × (cut.end ≡ end)) }
+        ensures cuts { (moment : Moment) (committed : List ℕ) (links : List (List Page))
+            → ((listener : ListenerState) → IsNew start 0 start [] listener → IsHearing moment committed listener [])
+            → length committed ≡ end → AreLinks committed links → streams.now ≡ (chain_state_of links).streams
+            → IsSameLink moment committed false → IfOk result (λ cut. IsCutting moment committed cut []) }
+        ensures numbers { result ≡ Err CutFault.NoNumber → AllByRecursion IsPage (ends_of streams.now) → ⊥ }
+        // Nothing is read.
+        ensures reads { result ≢ Err CutFault.Source }
     {
-        Cut {
-            listener: Listener::wait(alloc, start),
-            end,
-            text: Vec::new(alloc),
-            sent: 0,
-        }
+        let listener = Listener::wait(alloc, start);
+        Cut::new(alloc, listener, end, streams, false)
+    }
+
+    /// How many numbers of the stream aren't heard of the link that is joined, as long as no other begins.
+    pub fn gap(&self, serial: u32) -> u64
+        ensures { result ≡ gap_in self.now.listener.gaps serial }
+    {
+        self.listener.gap(serial)
     }
 
     /// The pages that end what is open where the cut ends, as far as they aren't given.

@@ -20,7 +20,8 @@ ghost use Rattle.serve_live.specs.Live.{IsMomentOf, Moment};
 ghost use Rattle.archive_cut.specs.Cutting.{CutState, GivesOf, IsCutting};
 ghost use Rattle.archive_cut.specs.Files.{AreCuts, CutsHold, HasEnded, Part, bytes_of_cuts, recording_of_cuts};
 ghost use Rattle.archive_cut.specs.Continuing.{named_page, names_on, open_states, open_streams};
-ghost use Rattle.archive_cut.specs.Cut.{HasNumbers, ended_bytes};
+ghost use Rattle.serve_live.specs.Joined.{IsNew};
+ghost use Rattle.archive_cut.specs.Cut.{HasNumbers, IsCut, ended_bytes};
 ghost use Rattle.archive_cut.specs.Heads.{streams_after};
 ghost use Rattle.archive_cut.specs.Finished.{EndWell, finished_bytes};
 ghost use Rattle.archive_cut.specs.Joined.{AreNextFiles, CanGoOn, FileRecording, GoesOn, HoldsFile, NextFile, continued, joined_link, joined_streams, names_in_order, open_in, with_files, with_recordings};
@@ -31,6 +32,7 @@ ghost use Rattle.archive_times.specs.Times.{AreTimes};
 ghost use Rattle.archive_cut.specs.Placing.{stood_at};
 ghost use Rattle.archive_cut.specs.declared.placing.Recorded.{Recorded as RecordedOf};
 ghost use Rattle.archive_times.specs.declared.line.Line.{Line as LineOf};
+ghost use Rattle.archive_cut.specs.Stretch.{stretch_rest};
 ghost use Rattle.archive_cut.specs.Times.{AddUp, AreBoundaries, IsBoundary, NeverFall, stood};
 ghost use Rattle.archive_cut.specs.Retold.{HasSameRest, fields_change, fields_of, head_of, names_of, page_change, retold};
 
@@ -109,6 +111,14 @@ pub fn cuts_are_given()
     ensures { (moment : Moment) (committed : List ℕ) (old new : CutState) (given : List ℕ) (size count : ℕ) (buffer : List ℕ)
         (cutting : IsCutting moment committed old given) → GivesOf committed cutting.rest size buffer count new
         → IsCutting moment committed new (given ++ take count buffer) }
+{}
+
+/// A cut from a place where no link is open has the file's own bytes from there on, and then the pages that end what is
+/// open: a `Stretch` gives it.
+pub fn waiting_cuts_are_stretches()
+    ensures { (moment : Moment) (committed : List ℕ) (cut : CutState) (start : ℕ) → IsCutting moment committed cut []
+        → IsNew start 0 start [] cut.listener
+        → IsCut moment committed (stretch_rest committed (record { place = start; end = cut.end; text = cut.text })) }
 {}
 
 /// Places between commands divide the commands of a file, and so do times. The cuts from each place to the next hold what

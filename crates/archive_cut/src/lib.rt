@@ -15,6 +15,7 @@ mod laws;
 mod paging;
 mod placing;
 mod retelling;
+mod stretch;
 
 pub use continuing::{Meeting, Named, meeting_of, name_page, names_on, open_streams};
 pub use cut::Cut;
@@ -24,9 +25,12 @@ pub use heads::{Said, said_of, take_page, take_pages};
 pub use laws::{
     commands_are_cut, cuts_add_up, cuts_are_a_chain, cuts_are_given, cuts_can_be_finished,
     cuts_hold_what_was_put, cuts_of_times_add_up, files_go_on, files_stand_in_order, links_go_on,
-    retelling_is_exact,
+    retelling_is_exact, waiting_cuts_are_stretches,
 };
-pub use page_heads::{LONGEST_HEAD, read_front};
-pub use paging::Paged;
-pub use placing::{Recorded, Stand, first_link, is_before, last_link, stood_at, time_of};
+pub use page_heads::{LONGEST_HEAD, PageFront, read_front};
+pub use paging::{Paged, page_room};
+pub use placing::{
+    Recorded, Stand, counted_at, first_link, is_before, last_link, stood_at, time_of,
+};
 pub use retelling::retell;
+pub use stretch::Stretch;

@@ -1,17 +1,28 @@
 //! A cut that is given page by page.
 
 use crate::cut::Cut;
+use crate::stretch::Stretch;
 use ogg_page::{FIXED_SIZE, Memory, PageSource, SourceFault, read_header};
 use std::alloc::Global;
 
 /// How many bytes of a cut are held at once: some of the longest pages.
 const ROOM: usize = 1 << 18;
 
-/// A cut, of which some bytes are held, so that a page is whole.
+/// What gives the bytes of a cut.
+#[derive(Debug, Drop)]
+enum Feed {
+    Cut(Cut),
+    Stretch(Stretch),
+}
+
+/// A cut, of which some bytes are held, so that pages are whole. Pages that are passed are held on, one after the other,
+/// until they are let go or more is read.
 #[derive(Drop)]
 pub struct Paged {
-    cut: Cut,
+    feed: Feed,
     room: Vec<u8>,
+    // where the pages begin that were passed, where the next page begins, and how many bytes are held
+    passed: usize,
     from: usize,
     to: usize,
 }
@@ -46,32 +57,65 @@ fn whole_page(bytes: &[u8]) -> Option<usize> {
     }
 }
 
+fn pull<S: PageSource>(
+    feed: &mut Feed,
+    source: &mut S,
+    buffer: &mut [u8],
+) -> Result<usize, SourceFault> {
+    match feed {
+        Feed::Cut(cut) => cut.pull(source, buffer),
+        Feed::Stretch(stretch) => stretch.pull(source, buffer),
+    }
+}
+
 /// Fills the room behind the first bytes, and returns how many bytes it has then.
 fn fill_behind<S: PageSource>(
-    cut: &mut Cut,
+    feed: &mut Feed,
     source: &mut S,
     room: &mut [u8],
     front: usize,
 ) -> Result<usize, SourceFault> {
     let front = front.min(room.len());
     let (_, free) = room.split_at_mut(front);
-    match cut.pull(source, free) {
+    match pull(feed, source, free) {
         Ok(count) => Ok(front.saturating_add(count)),
         Err(fault) => Err(fault),
     }
 }
 
+/// Room for the pages of a cut.
+pub fn page_room(alloc: Global) -> Result<Vec<u8>, Memory> {
+    let mut room = Vec::new(alloc);
+    room.resize(ROOM, 0)?;
+    Ok(room)
+}
+
 impl Paged {
-    /// Memory is taken for the bytes that are held.
-    pub fn new(alloc: Global, cut: Cut) -> Result<Paged, Memory> {
-        let mut room = Vec::new(alloc);
-        room.resize(ROOM, 0)?;
-        Ok(Paged {
-            cut,
+    /// The pages of a cut, in this room (`page_room`).
+    pub fn of_cut(cut: Cut, room: Vec<u8>) -> Paged {
+        Paged {
+            feed: Feed::Cut(cut),
             room,
+            passed: 0,
             from: 0,
             to: 0,
-        })
+        }
+    }
+
+    /// The pages of a stretch of a file.
+    pub fn of_stretch(stretch: Stretch, room: Vec<u8>) -> Paged {
+        Paged {
+            feed: Feed::Stretch(stretch),
+            room,
+            passed: 0,
+            from: 0,
+            to: 0,
+        }
+    }
+
+    /// The room, for another cut.
+    pub fn into_room(self) -> Vec<u8> {
+        self.room
     }
 
     /// The bytes that are held and weren't passed.
@@ -79,24 +123,28 @@ impl Paged {
         between(self.room.as_slice(), self.from, self.to)
     }
 
-    /// The size of the next page, which is whole in `page` then, or 0 at the cut's end.
-    pub fn next<S: PageSource>(&mut self, source: &mut S) -> Result<usize, SourceFault> {
-        if let Some(size) = whole_page(self.held()) {
-            return Ok(size);
-        }
+    /// The size of the next page, if it is held as a whole.
+    pub fn next(&self) -> Option<usize> {
+        whole_page(self.held())
+    }
+
+    /// Reads more. The pages that were passed are let go. It is false at the cut's end; else the next page is whole then.
+    pub fn fill<S: PageSource>(&mut self, source: &mut S) -> Result<bool, SourceFault> {
         let front = move_to_front(self.room.as_mut_slice(), self.from, self.to);
+        self.passed = 0;
         self.from = 0;
         self.to = front;
-        match fill_behind(&mut self.cut, source, self.room.as_mut_slice(), front) {
+        match fill_behind(&mut self.feed, source, self.room.as_mut_slice(), front) {
             Ok(to) => self.to = to,
             Err(fault) => return Err(fault),
         }
         if self.held().is_empty() {
-            return Ok(0);
+            return Ok(false);
         }
-        match whole_page(self.held()) {
-            Some(size) => Ok(size),
-            None => Err(SourceFault),
+        if self.next().is_some() {
+            Ok(true)
+        } else {
+            Err(SourceFault)
         }
     }
 
@@ -118,5 +166,15 @@ impl Paged {
     /// Passes the next page, of this size.
     pub fn pass(&mut self, size: usize) {
         self.from = self.from.saturating_add(size).min(self.to);
+    }
+
+    /// The pages that were passed, one after the other, and not let go.
+    pub fn passed(&self) -> &[u8] {
+        between(self.room.as_slice(), self.passed, self.from)
+    }
+
+    /// Lets go of the pages that were passed.
+    pub fn let_go(&mut self) {
+        self.passed = self.from;
     }
 }

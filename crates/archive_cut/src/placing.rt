@@ -153,3 +153,13 @@ pub fn time_of(times: &[u8], file: Recorded, offset: u64) -> u64 {
         None => end_of(file, last_of(times, file.committed)),
     }
 }
+
+/// By which time a cut counts the first `offset` bytes of the file. A second after the next file was begun it counts all
+/// of them, whatever the lines say.
+pub fn counted_at(times: &[u8], file: Recorded, offset: u64) -> u64 {
+    let time = time_of(times, file, offset);
+    match file.later.checked_add(NAMED_WITHIN) {
+        Some(sure) => time.min(sure),
+        None => time,
+    }
+}

@@ -1,2 +1,3 @@
+mod HeldBytes
 pub mod Groups
 pub mod Walks

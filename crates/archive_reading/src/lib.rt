@@ -10,6 +10,7 @@
 //! Start at `specs/Folder.antt`, `specs/Span.antt` and `specs/Ends.antt`, which say so.
 #![tactic(auto)]
 
+mod ahead;
 mod fault;
 mod files;
 mod laws;
@@ -18,6 +19,7 @@ mod prefix;
 mod span;
 mod walking;
 
+pub use ahead::Ahead;
 pub use fault::ReadingFault;
 pub use files::{committed, folder, last_line_of, length_of, path_of, times_of};
 pub use laws::walks_end_where_bytes_are_committed;

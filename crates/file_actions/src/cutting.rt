@@ -5,17 +5,19 @@ use crate::files::{flushed, output};
 use crate::serials::{NoPlace, Serials};
 use crate::telling::{now, or_memory};
 use archive_cut::{
-    Cut, CutFault, LONGEST_HEAD, Meeting, Paged, Recorded, Stand, StreamEnds, Way, first_link,
-    is_before, last_link, mark_last, meeting_of, read_front, stood_at, take_pages, time_of,
+    Cut, CutFault, LONGEST_HEAD, Meeting, PageFront, Paged, Recorded, Said, Stand, StreamEnds,
+    Stretch, Way, counted_at, first_link, is_before, last_link, mark_last, meeting_of, page_room,
+    read_front, said_of, stood_at, take_page, take_pages,
 };
 use archive_names::Name;
 use archive_reading::{
-    GAP, Listed, Prefix, ReadingFault, committed, folder, goes_on_with, length_of, span_of,
-    times_of,
+    Ahead, GAP, Listed, Prefix, ReadingFault, Seen as SeenFolder, committed, folder, goes_on_with,
+    length_of, span_of, times_of,
 };
 use archive_times::{Join, Line, last_line, next_line};
 use disk_model::FileDisk;
 use fault_lines::Fault;
+use link_chain::StreamState;
 use ogg_page::{FIXED_SIZE, PageBuffer, PageSource, write_whole};
 use std::alloc::{AllocError as Memory, Global};
 use std::io::Write;
@@ -23,8 +25,13 @@ use std::io::Write;
 /// How many bytes are written at once.
 const TOGETHER: usize = 65536;
 
-/// A cut has no more pages, since its bytes are counted.
-const MOST_PAGES: u64 = u64::MAX / 27;
+/// Where the number of a page stands in its head (RFC 3533, section 6).
+const NUMBER_AT: usize = 18;
+
+const NUMBER_END: usize = 22;
+
+/// How many bytes are read at once of a cut that is joined.
+const AHEAD: usize = 65536;
 
 /// What is asked of a folder. Times are in milliseconds since 1970.
 #[derive(Drop)]
@@ -36,8 +43,22 @@ struct Asked<'a> {
     now: u64,
 }
 
-/// What is cut out of a file: the bytes between two places.
+/// Why nothing was found.
 #[derive(Clone, Copy)]
+enum Stop {
+    Failed(Fault),
+    /// Pages of a file are damaged: such files are left out, so all are looked at anew.
+    Damaged,
+}
+
+impl From<Fault> for Stop {
+    fn from(fault: Fault) -> Stop {
+        Stop::Failed(fault)
+    }
+}
+
+/// What is cut out of a file: the bytes between two places.
+#[derive(Drop)]
 struct Part {
     name: Name,
     // from where on the end of the file's pages is sought
@@ -49,13 +70,16 @@ struct Part {
     begun: Option<u64>,
     // the next part goes on with what is open at the end
     stays_open: bool,
+    // the cut, if a link is joined
+    cut: Option<Cut>,
+    // the pages that end what is open, if none is joined, once the part's pages are counted
+    ends: Vec<u8>,
 }
 
 /// A part of which the pages aren't counted yet: the next one may go on with it.
 #[derive(Drop)]
 struct Waits {
     part: Part,
-    cut: Cut,
     source: Prefix<FileDisk>,
     // where the file's last link began, if all of the file up to its end is in the part, and where the Begin of its first
     // link ends, if the part begins with it
@@ -130,7 +154,7 @@ pub fn cut(
     }
     asked.tell(&finds, raw)?;
     let mut out = output(rt, TOGETHER)?;
-    let written = asked.write(&finds, raw, &mut out);
+    let written = asked.write(finds, raw, &mut out);
     flushed(written, &mut out, Fault::Write)
 }
 
@@ -154,6 +178,19 @@ impl<'a> Asked<'a> {
             Err(ReadingFault::Memory) => return Err(Fault::Memory),
             Err(_) => return Err(Fault::File),
         };
+        match self.find_among(&seen, false) {
+            Ok(finds) => Ok(finds),
+            Err(Stop::Failed(fault)) => Err(fault),
+            Err(Stop::Damaged) => match self.find_among(&seen, true) {
+                Ok(finds) => Ok(finds),
+                Err(Stop::Failed(fault)) => Err(fault),
+                Err(Stop::Damaged) => Err(Fault::File),
+            },
+        }
+    }
+
+    /// Finds it. If files may be damaged the pages of each are looked at before.
+    fn find_among(&self, seen: &SeenFolder, may_be_damaged: bool) -> Result<Finds, Stop> {
         let mut finds = Finds {
             parts: Vec::new(self.rt.alloc()),
             waits: None,
@@ -171,7 +208,7 @@ impl<'a> Asked<'a> {
         };
         let mut rest = seen.files.as_slice();
         while let Some((file, others)) = rest.split_first() {
-            self.find_in(file, others.first(), &mut finds)?;
+            self.find_in(file, others.first(), may_be_damaged, &mut finds)?;
             rest = others;
         }
         self.count_waiting(&mut finds)?;
@@ -184,8 +221,9 @@ impl<'a> Asked<'a> {
         &self,
         file: &Listed,
         next: Option<&Listed>,
+        may_be_damaged: bool,
         finds: &mut Finds,
-    ) -> Result<(), Fault> {
+    ) -> Result<(), Stop> {
         let later = match next {
             Some(next) => begin_of(next),
             None => self.now,
@@ -199,7 +237,7 @@ impl<'a> Asked<'a> {
         match seen {
             Some(seen) => {
                 self.note_air(&seen, finds)?;
-                self.find_part(seen, finds)
+                self.find_part(seen, may_be_damaged, finds)
             }
             None => {
                 finds.air.before = Some(file.name);
@@ -270,15 +308,15 @@ impl<'a> Asked<'a> {
     }
 
     /// Adds what is to be cut out of the file, if there is anything.
-    fn find_part(&self, seen: Seen, finds: &mut Finds) -> Result<(), Fault> {
+    fn find_part(&self, seen: Seen, may_be_damaged: bool, finds: &mut Finds) -> Result<(), Stop> {
         let stand = self.start_in(&seen);
         let end = self.end_in(&seen);
         if stand.offset >= end {
             return Ok(());
         }
         let times = seen.times.as_slice();
-        let from = time_of(times, seen.facts, stand.offset.saturating_add(1));
-        let to = time_of(times, seen.facts, end);
+        let from = counted_at(times, seen.facts, stand.offset.saturating_add(1));
+        let to = counted_at(times, seen.facts, end);
         let first = if stand.offset == 0 {
             first_link(times, end).map(|link| link.begun)
         } else {
@@ -290,7 +328,8 @@ impl<'a> Asked<'a> {
         } else {
             None
         };
-        let part = Part {
+        let mut source = seen.source;
+        let mut part = Part {
             name: seen.name,
             line: seen.line,
             start: stand.offset,
@@ -298,28 +337,64 @@ impl<'a> Asked<'a> {
             end,
             begun: None,
             stays_open: false,
+            cut: None,
+            ends: Vec::new(self.rt.alloc()),
         };
-        let mut source = seen.source;
-        match self.cut_of(&mut source, part) {
+        if may_be_damaged && !self.is_sound(&mut source, &mut part)? {
+            return Ok(());
+        }
+        self.join(&mut source, &mut part)?;
+        let waits = Waits {
+            part,
+            source,
+            last,
+            first,
+            number: 0,
+        };
+        self.add(waits, from, to, finds)
+    }
+
+    /// Whether the part can be cut: its pages are looked at.
+    fn is_sound(&self, source: &mut Prefix<FileDisk>, part: &mut Part) -> Result<bool, Fault> {
+        match self.join(source, part) {
+            Ok(()) => {}
+            Err(Stop::Failed(fault)) => return Err(fault),
+            Err(Stop::Damaged) => return Ok(false),
+        }
+        let mut streams = Vec::new(self.rt.alloc());
+        match take_pages(source, part.start, part.end, &mut streams) {
+            Ok(()) => {}
+            Err(CutFault::Memory) => return Err(Fault::Memory),
+            Err(_) => return Ok(false),
+        }
+        match Cut::waits(self.rt.alloc(), part.start, part.end, streams.as_slice()) {
+            Ok(_) => Ok(is_walked(source, part.start, part.end)),
+            Err(CutFault::Memory) => Err(Fault::Memory),
+            Err(_) => Ok(false),
+        }
+    }
+
+    /// Makes the cut of a part in which a link is joined.
+    fn join(&self, source: &mut Prefix<FileDisk>, part: &mut Part) -> Result<(), Stop> {
+        if part.join.is_none() {
+            return Ok(());
+        }
+        match Cut::between(self.rt.alloc(), source, part.start, part.join, part.end) {
             Ok(cut) => {
-                let waits = Waits {
-                    part,
-                    cut,
-                    source,
-                    last,
-                    first,
-                    number: 0,
-                };
-                self.add(waits, from, to, finds)
+                part.cut = Some(if part.stays_open {
+                    cut.left_open()
+                } else {
+                    cut
+                });
+                Ok(())
             }
-            Err(Fault::Memory) => Err(Fault::Memory),
-            // The pages are damaged.
-            Err(_) => Ok(()),
+            Err(CutFault::Memory) => Err(Stop::Failed(Fault::Memory)),
+            Err(_) => Err(Stop::Damaged),
         }
     }
 
     /// Adds a part.
-    fn add(&self, waits: Waits, from: u64, to: u64, finds: &mut Finds) -> Result<(), Fault> {
+    fn add(&self, waits: Waits, from: u64, to: u64, finds: &mut Finds) -> Result<(), Stop> {
         let mut waits = waits;
         if let Some(before) = finds.waits.take() {
             let (before, after) = self.meet(before, waits)?;
@@ -335,12 +410,13 @@ impl<'a> Asked<'a> {
     }
 
     /// Two parts, the second of which goes on with the first, if they meet.
-    fn meet(&self, before: Waits, after: Waits) -> Result<(Waits, Waits), Fault> {
+    fn meet(&self, before: Waits, after: Waits) -> Result<(Waits, Waits), Stop> {
         let mut before = before;
         let mut after = after;
         if let Some(meeting) = self.meeting(&mut before, &mut after)? {
             before.part.end = meeting.end;
             before.part.stays_open = true;
+            self.join(&mut before.source, &mut before.part)?;
             after.part.begun = Some(meeting.begun);
             after.number = before.number.saturating_add(meeting.number);
         }
@@ -373,79 +449,122 @@ impl<'a> Asked<'a> {
     }
 
     /// Counts the pages of the part that waits.
-    fn count_waiting(&self, finds: &mut Finds) -> Result<(), Fault> {
+    fn count_waiting(&self, finds: &mut Finds) -> Result<(), Stop> {
         let Some(waits) = finds.waits.take() else {
             return Ok(());
         };
         let Waits {
-            part,
-            cut,
-            source,
+            mut part,
+            mut source,
             ..
         } = waits;
-        if part.join.is_some() {
-            let mut pages = self.pages(source, part, &mut finds.serials)?;
-            count(&mut pages, &mut finds.serials, &mut finds.ends)?;
-        } else {
-            let mut source = source;
-            self.go_on(&mut source, part, &mut finds.serials)?;
-            // The pages are those of the file: their heads are enough.
-            count_heads(&mut source, part, &mut finds.serials, &mut finds.ends)?;
-            if !part.stays_open {
-                count_ends(cut.ends(), &mut finds.serials, &mut finds.ends)?;
-            }
-        }
-        push(&mut finds.parts, part)
-    }
-
-    /// The cut of a part.
-    fn cut_of(&self, source: &mut Prefix<FileDisk>, part: Part) -> Result<Cut, Fault> {
-        if part.stays_open && part.join.is_none() {
-            return Ok(Cut::open_from(self.rt.alloc(), part.start, part.end));
-        }
-        match Cut::between(self.rt.alloc(), source, part.start, part.join, part.end) {
-            Ok(cut) => if part.stays_open {
-                Ok(cut.left_open())
-            } else {
-                Ok(cut)
+        let counted = match (part.join, part.cut.as_ref()) {
+            (Some(join), Some(cut)) => self.count_joined(&mut source, &part, join, cut, finds),
+            _ => match self.count_plain(&mut source, &part, finds) {
+                Ok(ends) => {
+                    part.ends = ends;
+                    Ok(())
+                }
+                Err(fault) => Err(fault),
             },
-            Err(CutFault::Memory) => Err(Fault::Memory),
-            Err(_) => Err(Fault::File),
+        };
+        match counted {
+            Ok(()) => Ok(push(&mut finds.parts, part)?),
+            Err(Fault::Memory) => Err(Stop::Failed(Fault::Memory)),
+            Err(_) => Err(Stop::Damaged),
         }
     }
 
-    /// A part that goes on with the one before has the serials and numbers of what is open.
-    fn go_on(
+    /// Counts the pages of a part in which no link is joined, by their heads, and then those that end what is open, which
+    /// are returned.
+    fn count_plain(
         &self,
         source: &mut Prefix<FileDisk>,
-        part: Part,
-        serials: &mut Serials,
-    ) -> Result<(), Fault> {
-        let Some(begun) = part.begun else {
-            return Ok(());
-        };
+        part: &Part,
+        finds: &mut Finds,
+    ) -> Result<Vec<u8>, Fault> {
         let mut streams = Vec::new(self.rt.alloc());
-        match take_pages(source, 0, begun, &mut streams) {
-            Ok(()) => or_memory(serials.go_on(streams.as_slice())),
+        let start = self.begun_in(source, part, &mut streams)?;
+        if part.begun.is_some() {
+            or_memory(finds.serials.go_on(streams.as_slice()))?;
+        }
+        count_heads(source, start, part.end, None, &mut streams, finds)?;
+        let mut ends = Vec::new(self.rt.alloc());
+        if !part.stays_open {
+            let cut = match Cut::waits(self.rt.alloc(), part.start, part.end, streams.as_slice()) {
+                Ok(cut) => cut,
+                Err(CutFault::Memory) => return Err(Fault::Memory),
+                Err(_) => return Err(Fault::File),
+            };
+            count_ends(cut.ends(), finds)?;
+            or_memory(ends.extend_from_slice(cut.ends()))?;
+        }
+        Ok(ends)
+    }
+
+    /// Counts the pages of a part in which a link is joined: those that are heard before the place where it is joined, and
+    /// then those of the file, by their heads.
+    fn count_joined(
+        &self,
+        source: &mut Prefix<FileDisk>,
+        part: &Part,
+        join: Join,
+        cut: &Cut,
+        finds: &mut Finds,
+    ) -> Result<(), Fault> {
+        let begin = match Cut::between(
+            self.rt.alloc(),
+            source,
+            part.start,
+            Some(join),
+            part.start,
+        ) {
+            Ok(cut) => cut.left_open(),
+            Err(CutFault::Memory) => return Err(Fault::Memory),
+            Err(_) => return Err(Fault::File),
+        };
+        let room = or_memory(page_room(self.rt.alloc()))?;
+        count_pages(Paged::of_cut(begin, room), source, finds)?;
+        let mut streams = Vec::new(self.rt.alloc());
+        count_heads(source, part.start, part.end, Some(cut), &mut streams, finds)?;
+        count_ends(cut.ends(), finds)
+    }
+
+    /// Where the pages of a part begin that stand in the cut. Of one that goes on with the part before the streams are those
+    /// that its Begin left.
+    fn begun_in(
+        &self,
+        source: &mut Prefix<FileDisk>,
+        part: &Part,
+        streams: &mut Vec<StreamState>,
+    ) -> Result<u64, Fault> {
+        let Some(begun) = part.begun else {
+            return Ok(part.start);
+        };
+        match take_pages(source, 0, begun, streams) {
+            Ok(()) => Ok(begun),
             Err(CutFault::Memory) => Err(Fault::Memory),
             Err(_) => Err(Fault::File),
         }
     }
 
     /// The pages of a part, as they are in the cut after those of the parts before.
-    fn pages(
-        &self,
-        source: Prefix<FileDisk>,
-        part: Part,
-        serials: &mut Serials,
-    ) -> Result<PartPages, Fault> {
-        let mut source = source;
-        let cut = self.cut_of(&mut source, part)?;
-        self.go_on(&mut source, part, serials)?;
+    fn pages(&self, part: Part, room: Vec<u8>, serials: &mut Serials) -> Result<PartPages, Fault> {
+        let mut source = self.open_again(&part)?;
+        let mut streams = Vec::new(self.rt.alloc());
+        let start = self.begun_in(&mut source, &part, &mut streams)?;
+        if part.begun.is_some() {
+            or_memory(serials.go_on(streams.as_slice()))?;
+        }
+        let mut ahead = Vec::new(self.rt.alloc());
+        // A stretch is read by larger pieces.
+        if part.cut.is_some() {
+            or_memory(ahead.resize(AHEAD, 0))?;
+        }
+        let Part { end, cut, ends, .. } = part;
         Ok(PartPages {
-            paged: or_memory(Paged::new(self.rt.alloc(), cut))?,
-            source,
-            left_out: part.begun.unwrap_or(0),
+            paged: paged(cut, start, end, ends, room),
+            source: Ahead::new(source, ahead),
         })
     }
 
@@ -534,31 +653,33 @@ impl<'a> Asked<'a> {
     }
 
     /// Writes all parts.
-    fn write<W: Write>(&self, finds: &Finds, raw: bool, out: &mut W) -> Result<(), Fault> {
+    fn write<W: Write>(&self, finds: Finds, raw: bool, out: &mut W) -> Result<(), Fault> {
+        let Finds { parts, ends, .. } = finds;
         let mut passed = StreamEnds::new(self.rt.alloc());
         let mut serials = Serials::new(self.rt.alloc());
         let mut marked = or_memory(PageBuffer::new(self.rt.alloc()))?;
-        for part in finds.parts.as_slice() {
-            let source = self.open_again(*part)?;
-            let mut pages = self.pages(source, *part, &mut serials)?;
+        let mut room = or_memory(page_room(self.rt.alloc()))?;
+        for part in parts {
+            let mut pages = self.pages(part, room, &mut serials)?;
             if raw {
                 write_raw(&mut pages, &mut serials, out)?;
             } else {
                 write_finished(
                     &mut pages,
                     &mut serials,
-                    &finds.ends,
+                    &ends,
                     &mut passed,
                     &mut marked,
                     out,
                 )?;
             }
+            room = pages.paged.into_room();
         }
         Ok(())
     }
 
     /// Opens the file of a part again.
-    fn open_again(&self, part: Part) -> Result<Prefix<FileDisk>, Fault> {
+    fn open_again(&self, part: &Part) -> Result<Prefix<FileDisk>, Fault> {
         match committed(self.rt, self.folder, part.name, part.line) {
             Ok(source) => if part.end <= source.end() {
                 Ok(source)
@@ -568,6 +689,14 @@ impl<'a> Asked<'a> {
             Err(ReadingFault::Memory) => Err(Fault::Memory),
             Err(_) => Err(Fault::File),
         }
+    }
+}
+
+/// The pages of the cut, or of a stretch of a file and then these pages.
+fn paged(cut: Option<Cut>, start: u64, end: u64, ends: Vec<u8>, room: Vec<u8>) -> Paged {
+    match cut {
+        Some(cut) => Paged::of_cut(cut, room),
+        None => Paged::of_stretch(Stretch::new(start.min(end), end, ends), room),
     }
 }
 
@@ -582,29 +711,36 @@ fn is_within(meeting: Meeting, before: &Waits, after: &Waits) -> bool {
 #[derive(Drop)]
 struct PartPages {
     paged: Paged,
-    source: Prefix<FileDisk>,
-    // how many bytes of its first pages are left out
-    left_out: u64,
+    source: Ahead<Prefix<FileDisk>>,
 }
 
 impl PartPages {
-    /// The size of the next page, or 0 at the end.
-    fn next(&mut self, serials: &mut Serials) -> Result<usize, Fault> {
-        for _ in 0..MOST_PAGES {
-            let Ok(size) = self.paged.next(&mut self.source) else {
-                return Err(Fault::File);
-            };
-            if size == 0 {
-                return Ok(0);
+    /// The size of the next page, which is changed into that of the cut, or 0 at the end. What was passed is written before
+    /// more is read.
+    fn next<W: Write>(&mut self, serials: &mut Serials, out: &mut W) -> Result<usize, Fault> {
+        if self.paged.next().is_none() {
+            write_bytes(self.paged.passed(), out)?;
+            match self.paged.fill(&mut self.source) {
+                Ok(true) => {}
+                Ok(false) => return Ok(0),
+                Err(_) => return Err(Fault::File),
             }
-            if self.left_out == 0 {
-                placed(serials, self.paged.page_mut(size))?;
-                return Ok(size);
-            }
-            self.left_out = self.left_out.saturating_sub(size as u64);
-            self.paged.pass(size);
         }
-        Err(Fault::File)
+        match self.paged.next() {
+            Some(size) => {
+                placed(serials, self.paged.page_mut(size))?;
+                Ok(size)
+            }
+            None => Err(Fault::File),
+        }
+    }
+
+    /// Writes what was passed, and leaves out the next page, of this size.
+    fn leave_out<W: Write>(&mut self, size: usize, out: &mut W) -> Result<(), Fault> {
+        write_bytes(self.paged.passed(), out)?;
+        self.paged.pass(size);
+        self.paged.let_go();
+        Ok(())
     }
 }
 
@@ -618,58 +754,125 @@ fn placed(serials: &mut Serials, page: &mut [u8]) -> Result<(), Fault> {
 }
 
 /// Counts a page by its head.
-fn count_head(
-    head: &[u8],
-    size: u64,
-    serials: &mut Serials,
-    ends: &mut StreamEnds,
-) -> Result<(), Fault> {
+fn count_head(head: &[u8], size: u64, finds: &mut Finds) -> Result<(), Fault> {
     let mut bytes = [0; LONGEST_HEAD];
     let count = head.len().min(LONGEST_HEAD);
     let (room, _) = bytes.split_at_mut(count);
     let (head, _) = head.split_at(count);
     room.copy_from_slice(head);
-    placed(serials, room)?;
-    or_memory(ends.note(room, size))
+    placed(&mut finds.serials, room)?;
+    or_memory(finds.ends.note(room, size))
 }
 
-/// Counts the pages of a part in which no link was open where it begins, by their heads.
+/// The head under the number without the numbers that aren't heard. A stream's first page has its own.
+fn without_gap(head: &mut [u8], said: Said, gap: u64) {
+    if said.begins {
+        return;
+    }
+    let heard = u64::from(said.number).saturating_sub(gap);
+    let (front, _) = head.split_at_mut(NUMBER_END.min(head.len()));
+    let (_, own) = front.split_at_mut(NUMBER_AT.min(front.len()));
+    for (to, from) in own.iter_mut().zip((heard as u32).to_le_bytes()) {
+        *to = from;
+    }
+}
+
+/// Counts a page of a file by its head, and notes what it leaves of the streams of the last link. It is true if a stream
+/// begins.
+fn count_front(
+    front: PageFront,
+    joined: Option<&Cut>,
+    streams: &mut Vec<StreamState>,
+    finds: &mut Finds,
+) -> Result<bool, Fault> {
+    let PageFront { bytes, facts } = front;
+    let mut bytes = bytes;
+    let (head, _) = bytes.split_at_mut(facts.len.min(LONGEST_HEAD));
+    let Some(said) = said_of(head) else {
+        return Err(Fault::File);
+    };
+    if let Some(cut) = joined {
+        let gap = cut.gap(said.serial);
+        without_gap(head, said, gap);
+    }
+    if take_page(&said, streams).is_err() {
+        return Err(Fault::Memory);
+    }
+    count_head(head, facts.size, finds)?;
+    Ok(said.begins)
+}
+
+/// Counts the pages of a file between two places, by their heads. `streams` are those of the last link. Pages of a link
+/// that is joined are counted under the numbers that are heard.
 fn count_heads(
     source: &mut Prefix<FileDisk>,
-    part: Part,
-    serials: &mut Serials,
-    ends: &mut StreamEnds,
+    start: u64,
+    end: u64,
+    joined: Option<&Cut>,
+    streams: &mut Vec<StreamState>,
+    finds: &mut Finds,
 ) -> Result<(), Fault> {
-    let mut place = part.begun.unwrap_or(part.start);
-    while place < part.end {
+    let mut place = start;
+    let mut has_begun = false;
+    while place < end {
         match read_front(source, place) {
             Ok(front) => {
-                count_head(&front.bytes, front.facts.size, serials, ends)?;
-                place += front.facts.size;
+                let size = front.facts.size;
+                let heard = if has_begun { None } else { joined };
+                let begins = count_front(front, heard, streams, finds)?;
+                has_begun = has_begun || begins;
+                place += size;
             }
             Err(_) => return Err(Fault::File),
         }
     }
-    Ok(())
+    if place == end {
+        Ok(())
+    } else {
+        Err(Fault::File)
+    }
+}
+
+/// Whether pages stand from one place up to another, by their heads.
+fn is_walked(source: &mut Prefix<FileDisk>, start: u64, end: u64) -> bool {
+    let mut place = start;
+    while place < end {
+        match read_front(source, place) {
+            Ok(front) => place += front.facts.size,
+            Err(_) => return false,
+        }
+    }
+    place == end
 }
 
 /// Counts the pages that end what is open where a cut ends.
-fn count_ends(text: &[u8], serials: &mut Serials, ends: &mut StreamEnds) -> Result<(), Fault> {
+fn count_ends(text: &[u8], finds: &mut Finds) -> Result<(), Fault> {
     for page in text.chunks(FIXED_SIZE) {
-        count_head(page, FIXED_SIZE as u64, serials, ends)?;
+        count_head(page, FIXED_SIZE as u64, finds)?;
     }
     Ok(())
 }
 
-/// Counts the pages of a part.
-fn count(pages: &mut PartPages, serials: &mut Serials, ends: &mut StreamEnds) -> Result<(), Fault> {
-    for _ in 0..MOST_PAGES {
-        let size = pages.next(serials)?;
-        if size == 0 {
-            return Ok(());
+/// Counts all pages of a cut.
+fn count_pages(
+    pages: Paged,
+    source: &mut Prefix<FileDisk>,
+    finds: &mut Finds,
+) -> Result<(), Fault> {
+    let mut pages = pages;
+    for _ in 0..u64::MAX {
+        match pages.next() {
+            Some(size) => {
+                placed(&mut finds.serials, pages.page_mut(size))?;
+                or_memory(finds.ends.note(pages.page(size), size as u64))?;
+                pages.pass(size);
+            }
+            None => match pages.fill(source) {
+                Ok(true) => {}
+                Ok(false) => return Ok(()),
+                Err(_) => return Err(Fault::File),
+            },
         }
-        or_memory(ends.note(pages.paged.page(size), size as u64))?;
-        pages.paged.pass(size);
     }
     Err(Fault::File)
 }
@@ -680,12 +883,11 @@ fn write_raw<W: Write>(
     serials: &mut Serials,
     out: &mut W,
 ) -> Result<(), Fault> {
-    for _ in 0..MOST_PAGES {
-        let size = pages.next(serials)?;
+    for _ in 0..u64::MAX {
+        let size = pages.next(serials, out)?;
         if size == 0 {
             return Ok(());
         }
-        write_bytes(pages.paged.page(size), out)?;
         pages.paged.pass(size);
     }
     Err(Fault::File)
@@ -707,32 +909,24 @@ fn write_finished<W: Write>(
     marked: &mut PageBuffer,
     out: &mut W,
 ) -> Result<(), Fault> {
-    for _ in 0..MOST_PAGES {
-        let size = pages.next(serials)?;
+    for _ in 0..u64::MAX {
+        let size = pages.next(serials, out)?;
         if size == 0 {
             return Ok(());
         }
         let page = pages.paged.page(size);
         or_memory(passed.note(page, size as u64))?;
-        write_by(page, ends.way(passed.links(), page), marked, out)?;
-        pages.paged.pass(size);
+        match ends.way(passed.links(), page) {
+            Way::Stays => pages.paged.pass(size),
+            Way::Goes => pages.leave_out(size, out)?,
+            Way::Marked => {
+                let Ok(()) = mark_last(page, marked) else {
+                    return Err(Fault::File);
+                };
+                pages.leave_out(size, out)?;
+                write_bytes(marked.bytes(), out)?;
+            }
+        }
     }
     Err(Fault::File)
-}
-
-/// Writes a page, unless the finished cut leaves it out.
-fn write_by<W: Write>(
-    page: &[u8],
-    way: Way,
-    room: &mut PageBuffer,
-    out: &mut W,
-) -> Result<(), Fault> {
-    match way {
-        Way::Stays => write_bytes(page, out),
-        Way::Goes => Ok(()),
-        Way::Marked => match mark_last(page, room) {
-            Ok(()) => write_bytes(room.bytes(), out),
-            Err(_) => Err(Fault::File),
-        },
-    }
 }

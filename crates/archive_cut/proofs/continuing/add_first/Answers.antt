@@ -1,4 +1,4 @@
-use Rattle.std.proofs.Common.{◌++◌, false, [], ◌∙◌, ap, sym}
+use Rattle.std.proofs.Common.{◌++◌, [], ◌∙◌, ap, sym}
 use Rattle.std.proofs.lemmas.Bool.{cond-false}
 use Rattle.serve_live.specs.Renumbering.{back_of}
 use Rattle.archive_cut.proofs.Continued.{back_here}

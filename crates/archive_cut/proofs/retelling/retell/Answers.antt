@@ -18,8 +18,15 @@ returns-in_default c page is spelled =
     c.read_header.ensures.each (page_bytes page) page (page_size page) (stands_alone page is) (omega arith) (all_taken c.args.page.now page spelled) in
     cc
 
-pub returns-in-Ok : goal.returns-in-Ok
-returns-in-Ok c page is spelled =
+pub returns-then-is_named : goal.returns-then-is_named
+returns-then-is_named c page is spelled =
+    let read : c.read_header.result ≡ Ok (header_of page) =
+    c.read_header.ensures.each (page_bytes page) page (page_size page) (stands_alone page is) (omega arith) (all_taken c.args.page.now page spelled) in
+    let same : c.in-Ok.header ≡ header_of page = cc in
+    spelled ∙ ap page_bytes (sym (c.is_named.ensures page same c.if-is_named.true))
+
+pub returns-else-is_named : goal.returns-else-is_named
+returns-else-is_named c page is spelled =
     let read : c.read_header.result ≡ Ok (header_of page) =
     c.read_header.ensures.each (page_bytes page) page (page_size page) (stands_alone page is) (omega arith) (all_taken c.args.page.now page spelled) in
     let same : c.in-Ok.header ≡ header_of page = cc in

@@ -2,4 +2,4 @@ use Rattle.std.proofs.Common.{◌-◌}
 use Rattle.file_actions.proofs.cutting.count_heads.Given as goal
 
 abbrev pub decreases-loop-place : goal.decreases-loop-place
-decreases-loop-place l = l.part.end - l.place
+decreases-loop-place l = l.end - l.place
