@@ -1,5 +1,5 @@
 -- The connections of a server, and whose turn it is. Ours.
-use Rattle.std.specs.Prelude.{◌≡◌, ◌≢◌, ◌⊎◌, ◌≤◌, ◌+◌, ℕ, Bool, true, false, ◌||◌, [], ◌∷◌, ◌++◌, Option, Some, None}
+use Rattle.std.specs.Prelude.{◌≡◌, ◌≢◌, ◌⊎◌, ◌≤◌, ◌+◌, ℕ, Bool, true, false, not, ◌&&◌, ◌||◌, [], ◌∷◌, ◌++◌, Option, Some, None}
 use Rattle.slab.specs.Slab.{get}
 use Rattle.serve_clients.specs.Client.{ClientState, after_of, cut, is_hearing, with_line}
 use Rattle.serve_clients.specs.Patience.{looked_at}
@@ -81,13 +81,20 @@ abbrev pub turned_in : After → ℕ → ClientState → ClientState
 turned_in Shuts now client = record client { stage = Closing; since = now }
 turned_in after now client = client
 
-abbrev pub turned_at : ℕ → ClientState → ClientState
-turned_at now client = turned_in (after_of client) now client
-
 abbrev pub is_shut : After → Bool
 is_shut Shuts = true
 is_shut after = false
 
--- another turn follows if bytes went over it, or may at once, or were said to be its last
-abbrev pub goes_again : Bool → ClientState → Bool
-goes_again reads client = client.line.moved || (is_shut (after_of client) || reads)
+-- whoever has heard all that there is waits for more
+abbrev pub rested : Bool → ClientState → ClientState
+rested true client = record client { idle = true }
+rested false client = client
+
+-- what becomes of it at the end of its turn
+abbrev pub turned_by : Bool → ℕ → ClientState → ClientState
+turned_by rests now client = turned_in (after_of client) now (rested rests client)
+
+-- Another turn follows if bytes went over it and it isn't one that has heard all, or if bytes may go over it at once, or were
+-- said to be its last.
+abbrev pub goes_again : Bool → Bool → ClientState → Bool
+goes_again reads rests client = (client.line.moved && not rests) || (is_shut (after_of client) || reads)

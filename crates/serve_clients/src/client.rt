@@ -1,6 +1,6 @@
 //! A connection, and how far it has come.
 ghost use Rattle.std.specs.Prelude.{◌≡◌, ◌≢◌, ◌⊎◌, ◌++◌, [], Some, drop, OnOk, OnErr};
-ghost use Rattle.serve_clients.specs.Clients.{unwritten_by};
+ghost use Rattle.serve_clients.specs.Clients.{goes_again, rested, unwritten_by};
 ghost use Rattle.serve_clients.specs.Client.{ClientState, HasWritten, after_of, cut_for_memory, fresh, given, memory_refused, moved_if, told, with_line, with_stage};
 ghost use Rattle.serve_texts.specs.Player.{player_response};
 ghost use Rattle.serve_texts.specs.Status.{status_response};
@@ -269,6 +269,22 @@ impl Client {
     {
         if let Some(visit) = &mut self.visit {
             visit.sent(bytes);
+        }
+    }
+
+    /// Whether another turn follows its turn. If it rests, none does for the bytes that went over it.
+    pub(crate) fn goes_again(&self, reads: bool, rests: bool) -> bool
+        ensures { result ≡ goes_again reads rests self.now }
+    {
+        (self.line.moved && !rests) || self.after() == After::Shuts || reads
+    }
+
+    /// It waits for more, if it rests.
+    pub(crate) fn rest_if(&mut self, rests: bool)
+        ensures { self.new ≡ rested rests self.old }
+    {
+        if rests {
+            self.idle = true;
         }
     }
 

@@ -2,7 +2,7 @@
 ghost use Rattle.std.specs.Prelude.{◌≡◌, ◌≢◌, ◌≤◌, ◌+◌, ◌∷◌, [], ℕ, None, Some, false, true, IfOk, IfErr, IfSome, length};
 ghost use Rattle.slab.specs.Slab.{get, slab_len};
 ghost use Rattle.serve_clients.specs.Client.{ClientState, HasWritten, after_of, is_hearing, with_line};
-ghost use Rattle.serve_clients.specs.Clients.{AllStay, AreLookedAt, AreWoken, HasRoom, HasTurn, OthersStay, goes_again, told_by, turned_at, unread_by, unwritten_by};
+ghost use Rattle.serve_clients.specs.Clients.{AllStay, AreLookedAt, AreWoken, HasRoom, HasTurn, OthersStay, goes_again, rested, told_by, turned_by, unread_by, unwritten_by};
 ghost use Rattle.serve_clients.specs.Line.{taken_off};
 ghost use Rattle.serve_clients.specs.Patience.{looked_at};
 
@@ -156,14 +156,14 @@ impl Clients {
         }
     }
 
-    /// The turn is over, and this becomes of the connection. It gets another one if bytes went over it, or may at once: if
-    /// it has bytes that are read.
-    pub fn turned(&mut self, key: usize, reads: bool, now: u64) -> After
+    /// The turn is over, and this becomes of the connection. It gets another one if bytes went over it, unless it rests,
+    /// since it has heard all that there is; or if bytes may go over it at once: if it has bytes that are read.
+    pub fn turned(&mut self, key: usize, reads: bool, rests: bool, now: u64) -> After
         ensures after { (client : ClientState) → get self.old.slots key ≡ Some client → result ≡ after_of client }
-        ensures again { (client : ClientState) → get self.old.slots key ≡ Some client → goes_again reads client ≡ true
-            → HasTurn key (turned_at now client) self.old self.new }
-        ensures rests { (client : ClientState) → get self.old.slots key ≡ Some client → goes_again reads client ≡ false
-            → (get self.new.slots key ≡ Some client) × (self.new.turns ≡ self.old.turns) }
+        ensures again { (client : ClientState) → get self.old.slots key ≡ Some client → goes_again reads rests client ≡ true
+            → HasTurn key (turned_by rests now client) self.old self.new }
+        ensures rests { (client : ClientState) → get self.old.slots key ≡ Some client → goes_again reads rests client ≡ false
+            → (get self.new.slots key ≡ Some (rested rests client)) × (self.new.turns ≡ self.old.turns) }
         ensures none { get self.old.slots key ≡ None → (result ≡ After.Closes) × (self.new ≡ self.old) }
         ensures others { OthersStay key self.old self.new }
     {
@@ -171,11 +171,13 @@ impl Clients {
             return After::Closes;
         };
         let after = client.after();
+        let again = client.goes_again(reads, rests);
+        client.rest_if(rests);
         if after == After::Shuts {
             client.go_to(Stage::Closing);
             client.since = now;
         }
-        if client.line.moved || after == After::Shuts || reads {
+        if again {
             self.give_turn(key);
         }
         after

@@ -15,3 +15,4 @@ mod Places
 mod Growing
 mod Forgetting
 mod Kept
+mod HeardAll

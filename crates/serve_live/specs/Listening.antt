@@ -1,5 +1,5 @@
 -- What a listener has still to hear of what is committed. Ours.
-use Rattle.std.specs.Prelude.{◌≡◌, ℕ, ◌+◌, ◌<◌, ◌≤◌, List, [], ◌∷◌, ◌++◌, length, take, drop, min}
+use Rattle.std.specs.Prelude.{◌≡◌, ℕ, ◌+◌, ◌<◌, ◌≤◌, ◌&&◌, ◌==◌, Bool, nat_le, List, [], ◌∷◌, ◌++◌, length, take, drop, min}
 pub use Rattle.ogg_page.specs.Window.{HasFailed}
 use Rattle.std.specs.List.{AllByRecursion}
 use Rattle.ogg_page.specs.Page.{Page, IsPage, page_size, bytes_of_pages}
@@ -47,6 +47,10 @@ pub record IsLeft (committed : List ℕ) (listener : ListenerState) (rest : List
   pub pages : List ℕ
   pub pages_left : ArePagesLeft committed listener.gaps listener.place listener.skip pages
   pub joined : rest ≡ part_at listener.begin_place listener.begin_left committed ++ (listener.text ++ pages)
+
+-- nothing of this is left, if the committed bytes end there
+abbrev pub has_heard_all : ℕ → ListenerState → Bool
+has_heard_all end listener = (listener.begin_left == 0) && (nat_le (length listener.text) 0 && nat_le end listener.place)
 
 -- what a pull takes: the first bytes of what was to be heard are in the buffer, as many as go in
 pub record Gives (committed rest : List ℕ) (size : ℕ) (buffer : List ℕ) (count : ℕ) (after : ListenerState) : Type 0 where

@@ -17,7 +17,7 @@ ghost use Rattle.serve_live.specs.Places.{IsPlaceIn};
 ghost use Rattle.serve_live.specs.declared.listener.JoinPlace.{JoinPlace as JoinPlaceOf};
 ghost use Rattle.serve_live.specs.Heard.{heard, heard_bytes, heard_link};
 ghost use Rattle.serve_live.specs.Joining.{AreLater, IsJoined, heard_streams};
-ghost use Rattle.serve_live.specs.Listening.{Gives, IsLeft, ListenerState};
+ghost use Rattle.serve_live.specs.Listening.{Gives, IsLeft, ListenerState, has_heard_all};
 ghost use Rattle.serve_live.specs.Hearing.{IsHearing};
 ghost use Rattle.serve_live.specs.Joined.{IsNew, IsNewAt};
 ghost use Rattle.serve_live.specs.Pulling.{HasMoved};
@@ -151,4 +151,10 @@ pub fn renumbering_is_exact()
     ensures new { (number : ℕ) (page : Page) → IsPage page → number < 2 ^ 32 → page_bytes (renumbered number page)
         ≡ front_of page ++ (little_bytes 4 number ++ (little_bytes 4 (bit_xor (checksum_in page)
         (checksum_change page.sequence number (page_size page))) ++ back_of page)) }
+{}
+
+/// Of a listener that has heard all that is committed nothing is left to be heard.
+pub fn nothing_is_left_once_all_is_heard()
+    ensures { (committed rest : List ℕ) (listener : ListenerState) → has_heard_all (length committed) listener ≡ true
+        → IsLeft committed listener rest → rest ≡ [] }
 {}

@@ -29,9 +29,9 @@ pub use checksums::with_zeros;
 pub use fault::JoinFault;
 pub use laws::{
     commands_are_heard, commands_make_places, listeners_hear_what_they_should,
-    more_is_heard_as_more_is_committed, places_are_moments, renumbering_is_exact,
-    sessions_hear_what_is_committed, the_newest_boundary_is_kept, what_is_heard_is_a_chain,
-    what_is_live_is_a_chain,
+    more_is_heard_as_more_is_committed, nothing_is_left_once_all_is_heard, places_are_moments,
+    renumbering_is_exact, sessions_hear_what_is_committed, the_newest_boundary_is_kept,
+    what_is_heard_is_a_chain, what_is_live_is_a_chain,
 };
 pub use link_chain::StreamState;
 pub use listener::{JoinPlace, Listener};

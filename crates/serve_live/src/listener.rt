@@ -11,7 +11,7 @@ ghost use Rattle.serve_live.specs.Noting.{noted};
 ghost use Rattle.serve_live.specs.Places.{IsPlaceIn};
 ghost use Rattle.serve_live.specs.declared.joined.LinkPart.TheVariants.{Beginning, Since};
 ghost use Rattle.ogg_page.specs.Window.{KeepsSource};
-ghost use Rattle.serve_live.specs.Listening.{Gives, HasFailed, IsLeft};
+ghost use Rattle.serve_live.specs.Listening.{Gives, HasFailed, IsLeft, has_heard_all};
 ghost use Rattle.serve_live.specs.Pulling.{HasMoved};
 
 use crate::fault::JoinFault;
@@ -207,6 +207,14 @@ impl Listener {
         } else {
             gap_in(self.gaps.as_slice(), serial)
         }
+    }
+
+    /// Whether all is heard that is committed, up to `end`.
+    pub fn has_heard_all(&self, end: u64) -> bool
+        ensures { result ≡ has_heard_all end self.now }
+    {
+        let (_, text) = self.text.as_slice().split_at(self.sent);
+        self.begin_left == 0 && text.is_empty() && end <= self.left.place
     }
 
     /// Fills the buffer with the bytes that are heard next, up to the end of what is committed. It returns how many

@@ -1,10 +1,10 @@
 -- What calls leave of connections that they aren't for.
-use Rattle.std.proofs.Common.{◌≡◌, ◌≢◌, ◌⊎◌, ℕ, true, false, Option, Some, None, refl, sym, ◌∙◌, ap, subst, inl, inr}
+use Rattle.std.proofs.Common.{◌≡◌, ◌≢◌, ◌⊎◌, ℕ, true, false, Option, Some, None, refl, sym, ◌∙◌, ap, subst, inl, inr, Bool}
 use Rattle.std.proofs.lemmas.Bool.{cases_Bool}
 use Rattle.std.proofs.lemmas.Bool.Decides.{eqb_tells}
 use Rattle.std.proofs.lemmas.List.{get_or-set_other}
 use Rattle.serve_clients.specs.Client.{ClientState, after_of, cut, is_hearing, with_line, with_stage}
-use Rattle.serve_clients.specs.Clients.{AreWoken, HasTurn, OthersStay, told_by, turned_in}
+use Rattle.serve_clients.specs.Clients.{AreWoken, HasTurn, OthersStay, rested, told_by, turned_by, turned_in}
 use Rattle.serve_clients.specs.declared.client.After.{After}
 use Rattle.serve_clients.specs.declared.client.After.TheVariants.{Goes, Shuts, Closes}
 use Rattle.serve_clients.specs.declared.line.Line.{Line}
@@ -160,6 +160,19 @@ pub turned_like : (client after : ClientState) (now : ℕ) (kind : After) → af
 turned_like client after now Shuts is same = inr (is, same)
 turned_like client after now Goes is same = inl same
 turned_like client after now Closes is same = inl same
+
+resting_like : (client after : ClientState) (now : ℕ) (kind : After) → after_of client ≡ kind → IsLike (turned_in kind now (record client { idle = true })) after
+    → IsLike client after ⊎ ((after_of client ≡ Shuts) × IsLike (with_stage Closing client) after)
+resting_like client after now Shuts is same = inr (is, same)
+resting_like client after now Goes is same = inl same
+resting_like client after now Closes is same = inl same
+
+-- the same of one that may rest
+pub turned_rested : (waiting : Bool) (client after : ClientState) (now : ℕ)
+    → (IsLike (turned_by waiting now client) after → IsLike client after ⊎ ((after_of client ≡ Shuts) × IsLike (with_stage Closing client) after))
+    × (IsLike client (rested waiting client) ⊎ ((after_of client ≡ Shuts) × IsLike (with_stage Closing client) (rested waiting client)))
+turned_rested true client after now = (λ same. resting_like client after now (after_of client) refl same, inl (refl, refl, refl, refl, refl))
+turned_rested false client after now = (λ same. turned_like client after now (after_of client) refl same, inl (refl, refl, refl, refl, refl))
 
 -- ---- a source that is offered
 some_is_none : (client : ClientState) → Some client ≡ None → ⊥

@@ -1,5 +1,5 @@
 -- Whether another turn follows.
-use Rattle.std.proofs.Common.{◌≡◌, ◌⊎◌, ℕ, Bool, true, false, ◌||◌, Option, refl, sym, ◌∙◌, ap, inl, inr}
+use Rattle.std.proofs.Common.{◌≡◌, ◌⊎◌, ℕ, Bool, true, false, not, ◌&&◌, ◌||◌, Option, refl, sym, ◌∙◌, ap, inl, inr}
 use Rattle.std.proofs.lemmas.Bool.{cases_Bool}
 use Rattle.serve_clients.specs.Client.{ClientState, after_of, with_line, with_stage}
 use Rattle.serve_clients.specs.Line.{read_failed_by}
@@ -29,21 +29,27 @@ shut_is Goes e = absurd (false_true e)
 shut_is Shuts e = refl
 shut_is Closes e = absurd (false_true e)
 
-pub goes_on : (key : ℕ) (client : ClientState) (air : Option OnAir) (reads : Bool) → (reads ≡ false → IsRead key client air → ⊥) → GoesOn key client air
-    → goes_again reads client ≡ true
-goes_on key client air reads unread (inl moved) = ap (λ (m : Bool). m || (is_shut (after_of client) || reads)) moved
-goes_on key client air reads unread (inr (inl shuts)) =
-    or_right client.line.moved (is_shut (after_of client) || reads) (ap (λ (after : After). is_shut after || reads) shuts)
-goes_on key client air reads unread (inr (inr read)) = elim (cases_Bool reads) [
-  | inl is ↦ or_right client.line.moved (is_shut (after_of client) || reads) (or_right (is_shut (after_of client)) reads is)
+and_cases : (a b : Bool) → (a && not b) ≡ true → (a ≡ true) × (b ≡ false)
+and_cases true false e = (refl, refl)
+and_cases true true e = absurd (false_true e)
+and_cases false b e = absurd (false_true e)
+
+pub goes_on : (key : ℕ) (waiting : Bool) (client : ClientState) (air : Option OnAir) (reads : Bool) → (reads ≡ false → IsRead key client air → ⊥)
+    → GoesOn key waiting client air → goes_again reads waiting client ≡ true
+goes_on key waiting client air reads unread (inl (moved, isnt)) =
+    ap (λ (m : Bool). (m && not waiting) || (is_shut (after_of client) || reads)) moved ∙ ap (λ (w : Bool). not w || (is_shut (after_of client) || reads)) isnt
+goes_on key waiting client air reads unread (inr (inl shuts)) =
+    or_right (client.line.moved && not waiting) (is_shut (after_of client) || reads) (ap (λ (after : After). is_shut after || reads) shuts)
+goes_on key waiting client air reads unread (inr (inr read)) = elim (cases_Bool reads) [
+  | inl is ↦ or_right (client.line.moved && not waiting) (is_shut (after_of client) || reads) (or_right (is_shut (after_of client)) reads is)
   | inr isnt ↦ absurd (unread isnt read)
 ]
 
-pub rests : (key : ℕ) (client : ClientState) (air : Option OnAir) (reads : Bool) → (reads ≡ true → IsRead key client air) → (GoesOn key client air → ⊥)
-    → goes_again reads client ≡ false
-rests key client air reads read over = elim (cases_Bool (goes_again reads client)) [
-  | inl goes ↦ elim (or_cases client.line.moved (is_shut (after_of client) || reads) goes) [
-    | inl moved ↦ absurd (over (inl moved))
+pub rests : (key : ℕ) (waiting : Bool) (client : ClientState) (air : Option OnAir) (reads : Bool) → (reads ≡ true → IsRead key client air)
+    → (GoesOn key waiting client air → ⊥) → goes_again reads waiting client ≡ false
+rests key waiting client air reads read over = elim (cases_Bool (goes_again reads waiting client)) [
+  | inl goes ↦ elim (or_cases (client.line.moved && not waiting) (is_shut (after_of client) || reads) goes) [
+    | inl moved ↦ absurd (over (inl (and_cases client.line.moved waiting moved)))
     | inr other ↦ elim (or_cases (is_shut (after_of client)) reads other) [
       | inl shuts ↦ absurd (over (inr (inl (shut_is (after_of client) shuts))))
       | inr is ↦ absurd (over (inr (inr (read is))))

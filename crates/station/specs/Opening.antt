@@ -14,7 +14,7 @@ pub record IsIdle {D : Type 0} (options : Options) (station : Station D) : Type 
   pub reopened : station.reopened ≡ None
   pub spare : station.spare.items ≡ []
   pub counts : station.counts ≡ nothing_done
-  pub clocks : (station.waiting_since ≡ 0) × (station.on_air_since ≡ 0) × (station.looked ≡ 0) × (station.waking ≡ woken_at 0)
+  pub clocks : (station.waiting_since ≡ 0) × (station.on_air_since ≡ 0) × (station.looked ≡ 0) × (station.waking ≡ woken_at 0 0)
   pub commits : (station.commits ≡ 0) × (station.commits_a_second ≡ 0)
 
 -- and nobody is connected

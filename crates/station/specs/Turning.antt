@@ -1,5 +1,5 @@
 -- What is done in a turn. Ours.
-use Rattle.std.specs.Prelude.{◌≡◌, ◌⊎◌, ⊤, ℕ, true, Option}
+use Rattle.std.specs.Prelude.{◌≡◌, ◌⊎◌, ◌&&◌, ⊤, ℕ, Bool, true, false, not, Option}
 use Rattle.serve_clients.specs.Client.{ClientState, after_of, cut_for_memory, fresh, told, with_line, with_stage}
 use Rattle.serve_clients.specs.declared.client.After.TheVariants.{Shuts}
 use Rattle.serve_clients.specs.declared.client.Stage.{Stage}
@@ -10,6 +10,7 @@ use Rattle.station_sources.specs.Air.{IsFedBy}
 use Rattle.station_sources.specs.declared.air.Feeder.TheVariants.{Peer}
 use Rattle.station_sources.specs.declared.air.OnAir.{OnAir}
 use Rattle.serve_sources.specs.declared.answers.TheConstants.{FULL}
+use Rattle.station_hub.specs.Giving.{has_got_all}
 
 -- What a connection sends is read in its turn, or passed over if nothing more is expected of it. Only a source has to wait:
 -- for the air, and on the air until what came before is taken. Nothing is read of a connection that is cut.
@@ -23,9 +24,15 @@ TakesIn stage fed = ⊤
 abbrev pub IsRead : ℕ → ClientState → Option OnAir → Type 0
 IsRead key client air = (client.line.readable ≡ true) × TakesIn client.stage (IsFedBy (Peer key) air)
 
--- Another turn follows: bytes went over the connection, it has got its last one, or bytes of it are to be read.
-abbrev pub GoesOn : ℕ → ClientState → Option OnAir → Type 0
-GoesOn key client air = (client.line.moved ≡ true) ⊎ ((after_of client ≡ Shuts) ⊎ IsRead key client air)
+-- A listener that has got all that is committed, up to this end, waits for more, unless it is to be told that no more comes.
+abbrev pub waits_for_more : ℕ → Bool → ClientState → Bool
+waits_for_more end over client = not over && has_got_all end client
+
+-- Another turn follows: bytes went over the connection and it doesn't wait for more, it has got its last one, or bytes of it
+-- are to be read.
+abbrev pub GoesOn : ℕ → Bool → ClientState → Option OnAir → Type 0
+GoesOn key waiting client air =
+    ((client.line.moved ≡ true) × (waiting ≡ false)) ⊎ ((after_of client ≡ Shuts) ⊎ IsRead key client air)
 
 -- A connection too many is told so, and gets nothing more. If memory for that is refused it is cut.
 abbrev pub IsTurnedAway : ℕ → ClientState → Type 0

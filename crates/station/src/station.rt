@@ -145,7 +145,7 @@ impl<D: Disk + Drop> Station<D> {
             commits: 0,
             commits_a_second: 0,
             ending: None,
-            waking: Waking::at(0),
+            waking: Waking::at(0, 0),
             spare: Vec::new(alloc),
         }
     }

@@ -1,6 +1,7 @@
 //! What is recorded, step by step.
 ghost use Rattle.std.specs.Prelude.{◌≡◌, ◌≢◌, ◌⊎◌, ◌||◌, None, Option, Some, OnErr, OnOk, is_some, length, true, false};
-ghost use Rattle.station_hub.specs.Waking.{woken_at};
+ghost use Rattle.station_hub.specs.Waking.{is_due as are_due, woken_at};
+ghost use Rattle.station.specs.Ending.{gathers};
 ghost use Rattle.slab.specs.Slab.{get};
 ghost use Rattle.serve_clients.specs.Client.{ClientState};
 ghost use Rattle.serve_clients.specs.Clients.{OthersStay};
@@ -155,7 +156,11 @@ impl<D: Disk + Drop> Station<D> {
             × (streams_in self.new.counts ≡ streams_in (with_done result self.old.counts)) }
         // If more is committed, listeners are woken now, or it is remembered that they are to be.
         ensures wakes { (before after : HubState) → Shows D.Disk self.old.live.hub before → Shows D.Disk self.new.live.hub after
-            → length before.committed ≢ length after.committed → (self.new.waking ≡ woken_at now) ⊎ (self.new.waking.unheard ≡ true) }
+            → length before.committed ≢ length after.committed
+            → (self.new.waking ≡ woken_at now (length after.committed)) ⊎ (self.new.waking.unheard ≡ true) }
+        // While something waits for them, they weren't to be woken.
+        ensures undue_yet { (machine : HubState) → Shows D.Disk self.new.live.hub machine → self.new.waking.unheard ≡ true
+            → are_due (gathers self.new.air self.new.ending) self.new.waking now (length machine.committed) ≡ false }
         // No session is touched, and the places stay those of the file. Of the connections, sources alone may change.
         ensures records { RecordsLive D.Disk self.old.live self.new.live }
         ensures passed { ArePassed self.old.clients.slots self.new.clients.slots }

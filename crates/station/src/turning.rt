@@ -5,7 +5,7 @@ ghost use Rattle.serve_hub.specs.Parts.{is_settled};
 ghost use Rattle.serve_hub.specs.Showing.{Shows};
 ghost use Rattle.serve_machine.specs.Hub.{HubState};
 ghost use Rattle.serve_clients.specs.Client.{ClientState, HasWritten, after_of, with_line, with_stage};
-ghost use Rattle.serve_clients.specs.Clients.{AllStay, AreLookedAt, AreWoken, HasTurn, OthersStay, told_by, turned_at, unread_by, unwritten_by};
+ghost use Rattle.serve_clients.specs.Clients.{AllStay, AreLookedAt, AreWoken, HasTurn, OthersStay, rested, told_by, turned_by, unread_by, unwritten_by};
 ghost use Rattle.serve_clients.specs.Line.{taken_off};
 ghost use Rattle.serve_clients.specs.declared.client.After.TheVariants.{Closes, Shuts};
 ghost use Rattle.serve_clients.specs.declared.client.Stage.TheVariants.{Closing as ClosingOf};
@@ -16,7 +16,7 @@ ghost use Rattle.station.specs.Clocks.{KeepsClocks, ended_from};
 ghost use Rattle.station.specs.Ending.{gathers, has_finished, is_over};
 ghost use Rattle.station.specs.Passing.{ArePassed, IsLike};
 ghost use Rattle.station.specs.Succeeding.{HaveTurns};
-ghost use Rattle.station.specs.Turning.{GoesOn, IsRead};
+ghost use Rattle.station.specs.Turning.{GoesOn, IsRead, waits_for_more};
 ghost use Rattle.station.specs.Waiting.{until_next};
 ghost use Rattle.station_hub.specs.Waking.{is_due, listeners_every, until_due, woken_at};
 
@@ -118,13 +118,17 @@ impl<D: Disk + Drop> Station<D> {
     }
 
     /// The turn is over, and this becomes of the connection. It gets another one if bytes went over it, or may at once:
-    /// if bytes of it are to be read.
+    /// if bytes of it are to be read. A listener that has got all that is committed waits until it is woken.
     pub fn turned(&mut self, key: usize, now: u64) -> After
         ensures after { (client : ClientState) → get self.old.clients.slots key ≡ Some client → result ≡ after_of client }
-        ensures again { (client : ClientState) → get self.old.clients.slots key ≡ Some client
-            → GoesOn key client self.old.air → HasTurn key (turned_at now client) self.old.clients self.new.clients }
-        ensures rests { (client : ClientState) → get self.old.clients.slots key ≡ Some client
-            → ¬ (GoesOn key client self.old.air) → (get self.new.clients.slots key ≡ Some client) × (self.new.clients.turns ≡ self.old.clients.turns) }
+        ensures again { (client : ClientState) (machine : HubState) → get self.old.clients.slots key ≡ Some client → Shows D.Disk self.old.live.hub machine
+            → GoesOn key (waits_for_more (length machine.committed) (is_over self.old.air self.old.ending) client) client self.old.air
+            → HasTurn key (turned_by (waits_for_more (length machine.committed) (is_over self.old.air self.old.ending) client) now client)
+            self.old.clients self.new.clients }
+        ensures rests { (client : ClientState) (machine : HubState) → get self.old.clients.slots key ≡ Some client → Shows D.Disk self.old.live.hub machine
+            → ¬ (GoesOn key (waits_for_more (length machine.committed) (is_over self.old.air self.old.ending) client) client self.old.air)
+            → (get self.new.clients.slots key ≡ Some (rested (waits_for_more (length machine.committed) (is_over self.old.air self.old.ending) client) client))
+            × (self.new.clients.turns ≡ self.old.clients.turns) }
         ensures none { get self.old.clients.slots key ≡ None → (result ≡ Closes) × (get self.new.clients.slots key ≡ None) }
         // It is as it was, or is told that no more comes.
         ensures stays { (client : ClientState) → get self.old.clients.slots key ≡ Some client → (after : ClientState) × (get self.new.clients.slots key ≡ Some after)
@@ -135,23 +139,39 @@ impl<D: Disk + Drop> Station<D> {
         ensures since { self.new.waiting_since ≡ self.old.waiting_since }
     {
         let reads = self.reads(key);
-        self.clients.turned(key, reads, now)
+        let rests = self.waits_for_more(key);
+        self.clients.turned(key, reads, rests, now)
+    }
+
+    /// Whether this connection listens, has got all that is committed, and is to get more.
+    fn waits_for_more(&self, key: usize) -> bool
+        ensures none { get self.now.clients.slots key ≡ None → result ≡ false }
+        ensures some { (client : ClientState) (machine : HubState) → get self.now.clients.slots key ≡ Some client → Shows D.Disk self.now.live.hub machine
+            → result ≡ waits_for_more (length machine.committed) (is_over self.now.air self.now.ending) client }
+    {
+        match self.clients.slots.get(key) {
+            Some(client) => !self.is_over() && self.live.has_got_all(client),
+            None => false,
+        }
     }
 
     /// Whoever hears what is recorded has a turn, if there is more for them and it is time.
     #[tactic(auto, using(crate::proofs::Succeeding::woken, crate::proofs::Passed::woken, crate::specs::PassingLaws::all_stay))]
     pub(crate) fn wake_listeners(&mut self, now: u64)
-        ensures due { is_due (gathers self.old.air self.old.ending) self.old.waking now ≡ true
-            → (self.new.waking ≡ woken_at now) × AreWoken self.old.clients self.new.clients }
-        ensures waits { is_due (gathers self.old.air self.old.ending) self.old.waking now ≡ false → self.new ≡ self.old }
+        ensures due { (machine : HubState) → Shows D.Disk self.old.live.hub machine
+            → is_due (gathers self.old.air self.old.ending) self.old.waking now (length machine.committed) ≡ true
+            → (self.new.waking ≡ woken_at now (length machine.committed)) × AreWoken self.old.clients self.new.clients }
+        ensures waits { (machine : HubState) → Shows D.Disk self.old.live.hub machine
+            → is_due (gathers self.old.air self.old.ending) self.old.waking now (length machine.committed) ≡ false → self.new ≡ self.old }
         ensures clocks { KeepsClocks self.old self.new }
         ensures turns { HaveTurns self.old.clients.slots self.new.clients.slots }
         ensures passed { ArePassed self.old.clients.slots self.new.clients.slots }
         ensures live { self.new.live ≡ self.old.live }
         ensures air { self.new.air ≡ self.old.air }
     {
-        if self.waking.is_due(self.gathers(), now) {
-            self.waking = Waking::at(now);
+        let end = self.live.hub().end();
+        if self.waking.is_due(self.gathers(), now, end) {
+            self.waking = Waking::at(now, end);
             self.clients.wake_hearing();
         }
     }
@@ -239,7 +259,7 @@ impl<D: Disk + Drop> Station<D> {
     pub fn until_next(&self, now: u64) -> u64
         ensures exactly { (machine : HubState) → Shows D.Disk self.now.live.hub machine
             → result ≡ until_next self.now.clients.turns.len (until_commit machine.waiting self.now.waiting_since now)
-            (until_due (gathers self.now.air self.now.ending) self.now.waking now) }
+            (until_due (gathers self.now.air self.now.ending) self.now.waking now (length machine.committed)) }
         ensures turn { 0 < self.now.clients.turns.len → result ≡ 0 }
         ensures waking { self.now.waking.unheard ≡ true → result ≤ listeners_every - (now - self.now.waking.woken) }
         ensures most { result ≤ 1000 }
@@ -247,7 +267,8 @@ impl<D: Disk + Drop> Station<D> {
         if self.clients.turns() > 0 {
             return 0;
         }
-        let waking = self.waking.until_due(self.gathers(), now);
+        let end = self.live.hub().end();
+        let waking = self.waking.until_due(self.gathers(), now, end);
         sooner(self.until_due(now), sooner(waking, LOOKS))
     }
 

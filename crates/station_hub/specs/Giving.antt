@@ -1,11 +1,11 @@
 -- What a connection is given to be written. Ours.
-use Rattle.std.specs.Prelude.{◌≡◌, ◌≢◌, ◌⊎◌, ℕ, if◌then◌else◌, Option, Some, None, Result, Ok, Err, List, [], ◌++◌, take}
+use Rattle.std.specs.Prelude.{◌≡◌, ◌≢◌, ◌⊎◌, ◌&&◌, ℕ, Bool, false, nat_le, if◌then◌else◌, Option, Some, None, Result, Ok, Err, List, [], ◌++◌, length, take}
 use Rattle.serve_machine.specs.Calls.{Steps}
 use Rattle.serve_machine.specs.Hub.{Given, HubState, Phase, Pull, Sending, phase_of}
 use Rattle.serve_machine.specs.declared.fault.HubFault.{HubFault}
-use Rattle.serve_clients.specs.Client.{ClientState, cut, with_stage}
+use Rattle.serve_clients.specs.Client.{ClientState, cut, is_hearing, with_stage}
 use Rattle.serve_live.specs.Hearing.{IsHearing}
-use Rattle.serve_live.specs.Listening.{ListenerState}
+use Rattle.serve_live.specs.Listening.{ListenerState, has_heard_all}
 use Rattle.serve_live.specs.Live.{Moment}
 use Rattle.serve_hub.specs.Listening.{HearsMore}
 use Rattle.disk_model.specs.declared.disk.Disk.{Ghosts as DiskModel}
@@ -47,6 +47,15 @@ abbrev pub HasHeard : Moment → List ℕ → List ℕ → List ℕ → ℕ → 
 HasHeard moment committed given rest size old count buffer new =
     ((listener : ListenerState) × HearsMore moment committed given rest size count buffer listener × (new ≡ record old { listener = Some listener }))
     ⊎ ((count ≡ 0) × (new ≡ cut old))
+
+-- it has heard all that is committed, up to this end
+abbrev pub has_heard_by : ℕ → Option ListenerState → Bool
+has_heard_by end None = false
+has_heard_by end (Some listener) = has_heard_all end listener
+
+-- A listener has got all that there is for it: nothing of that waits to be written.
+abbrev pub has_got_all : ℕ → ClientState → Bool
+has_got_all end client = is_hearing client.stage && (nat_le (length client.unsent) 0 && has_heard_by end client.listener)
 
 -- there is no file, or its disk has failed
 abbrev pub LosesFile : {D : Type 0} → DiskModel D → HubParts D → HubParts D → Type 0

@@ -10,13 +10,14 @@ ghost use Rattle.serve_hub.specs.Images.{IfFile, Reads};
 ghost use Rattle.serve_hub.specs.Listening.{KeepsMachine};
 ghost use Rattle.serve_hub.specs.Showing.{Shows};
 ghost use Rattle.station_hub.specs.Keeping.{KeepsRecorded};
-ghost use Rattle.station_hub.specs.Giving.{HasHeard, HasPulled, LosesFile};
+ghost use Rattle.station_hub.specs.Giving.{HasHeard, HasPulled, LosesFile, has_got_all, has_heard_by};
 ghost use Rattle.serve_clients.specs.declared.client.Stage.TheVariants.{Cut as CutOf, Ending as EndingOf, Hearing as HearingOf, Sending as SendingOf};
 
 use crate::live_hub::LiveHub;
 use disk_model::Disk;
 use serve_clients::{Client, Stage};
 use serve_hub::Hub;
+use serve_live::Listener;
 use serve_machine::calls_move_their_session;
 
 /// Gives the first of the bytes that couldn't be written before, and returns how many.
@@ -85,7 +86,26 @@ fn hear<D: Disk + Drop>(hub: &mut Hub<D>, client: &mut Client, buffer: &mut [u8]
     }
 }
 
+/// Whether the listener, if there is one, has heard all that is committed, up to `end`.
+fn has_heard_by(listener: &Option<Listener>, end: u64) -> bool
+    ensures { result ≡ has_heard_by end listener.now }
+{
+    match listener {
+        Some(listener) => listener.has_heard_all(end),
+        None => false,
+    }
+}
+
 impl<D: Disk + Drop> LiveHub<D> {
+    /// Whether this connection listens and has got all that there is for it.
+    pub fn has_got_all(&self, client: &Client) -> bool
+        ensures { (machine : HubState) → Shows D.Disk self.now.hub machine → result ≡ has_got_all (length machine.committed) client.now }
+    {
+        client.stage == Stage::Hearing
+            && client.unsent().is_empty()
+            && has_heard_by(&client.listener, self.hub.end())
+    }
+
     /// Gives the next bytes to be written: those that couldn't be written before, or the next ones of its response, or those
     /// that it hears next. It returns how many these are.
     pub fn give(&mut self, client: &mut Client, buffer: &mut [u8]) -> usize

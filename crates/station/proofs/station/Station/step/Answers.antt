@@ -4,7 +4,7 @@ use Rattle.station_hub.specs.declared.live_hub.LiveHub.{LiveHub}
 use Rattle.station_sources.specs.declared.air.OnAir.{OnAir}
 use Rattle.serve_hub.specs.Parts.{serials_in}
 use Rattle.station_hub.specs.Live.{RecordsLive}
-use Rattle.station.specs.Beginning.{run_in}
+use Rattle.station.specs.Beginning.{HasReopened, run_in}
 use Rattle.station.specs.Clocks.{Clocks, HasReopenedAt, clocks_of, streams_in}
 use Rattle.station.specs.Passing.{ArePassed}
 use Rattle.station.specs.Stepping.{BeginsBy, FreesBy, GoesOnWithLoss, IsSucceededBy, RestsBy, TakesFromSource, with_done}
@@ -55,6 +55,12 @@ pub returns-clause-noted : goal.returns-clause-noted
 returns-clause-noted g c air answered is told =
     let noted = c.step_once-done.ensures.noted air answered is told in
     subst (GoesOnWithLoss air) (sym (air_is g c)) noted
+
+pub returns-clause-resumes : goal.returns-clause-resumes
+returns-clause-resumes g c air answered machine is shows told =
+    subst (λ (live : LiveHub _). HasReopened g.D.Disk answered air c.wake_feeder.new.self.air live machine) (sym (live_is g c))
+    (subst (λ (now : Option OnAir). HasReopened g.D.Disk answered air now c.step_once-done.new.self.live machine) (sym (air_is g c))
+    (c.step_once-done.ensures.resumes air answered machine is shows told))
 
 pub returns-clause-succeeded : goal.returns-clause-succeeded
 returns-clause-succeeded g c =
