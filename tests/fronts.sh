@@ -123,6 +123,57 @@ END
     check "its file is sealed" grep -q "^committed $(wc -c <"$work/radio.ogg")\$" "$work/listing"
 fi
 
+# Three stations behind one nginx, each with a path of one site: each source is heard at its own path, and nowhere else.
+if has nginx openssl; then
+    tls=$(asking port)
+    mkdir -p "$work/many"
+    chmod a+rx "$work" "$work/many"
+    cp "$work/nginx/key.pem" "$work/nginx/certificate.pem" "$work/many/"
+    cp "$top/examples/station/nginx-stations.conf" "$work/many/stations.conf"
+    echo secret >"$work/password"
+    for name in rock jazz news; do
+        port=$(asking port)
+        begin "$work/many.$name.ogg" --password-file "$work/password" </dev/null
+        sed -i "s/^    $name [0-9]*;/    $name $port;/" "$work/many/stations.conf"
+    done
+    sed -i "s/listen 8443/listen 127.0.0.1:$tls/" "$work/many/stations.conf"
+    sed 's/station.conf/stations.conf/' "$work/nginx/nginx.conf" >"$work/many/nginx.conf"
+    nginx -p "$work/many" -c nginx.conf -g 'daemon off;' 2>"$work/many/err" &
+    begun+=($!)
+    asking wait "$tls"
+    site=https://127.0.0.1:$tls
+    serial=10
+    for name in rock jazz news; do
+        serial=$((serial + 1))
+        noise 12 "$serial" "$work/many.$name.source"
+        live "$work/many.$name.source" | timeout 60 curl -sk -u source:secret -T - -o "$work/many.$name.answer" -w '%{http_code}' "$site/$name/live" >"$work/many.$name.code" &
+        sources[serial]=$!
+    done
+    heard=()
+    for name in rock jazz news; do
+        within 10 sh -c "curl -sk $site/$name/ | grep -q '^link 0 '"
+        timeout 60 curl -skN --max-time 9 -o "$work/many.$name.heard" "$site/$name/live" &
+        heard+=($!)
+    done
+    wait "${heard[@]}" "${sources[@]}"
+    serial=10
+    for name in rock jazz news; do
+        serial=$((serial + 1))
+        check "$name: its source is answered through nginx" [ "$(cat "$work/many.$name.code")" = 200 ]
+        "$program" split "$work/many.$name.ogg" 0 >"$work/link.ogg"
+        packets "$work/many.$name.source" >"$work/want"
+        packets "$work/link.ogg" >"$work/found"
+        check "$name: what it sent is recorded" cmp "$work/want" "$work/found"
+        packets "$work/many.$name.heard" >"$work/found"
+        check "$name: what is heard at its path is its own" grep -qxFf "$work/want" "$work/found"
+        check "$name: and nothing else" [ "$(sort -u "$work/found" | comm -13 <(sort -u "$work/want") - | wc -l)" -eq 0 ]
+        check "$name: its page" sh -c "curl -sk $site/$name/player | grep -q 'src=\"live\"'"
+        check "$name: where its page is" sh -c "curl -sk -o /dev/null -w '%{redirect_url}' $site/$name | grep -q '/$name/player\$'"
+        check "$name: its numbers" sh -c "curl -sk $site/$name/status | grep -qx 'kudzuturret_links 1'"
+    done
+    check "a station that isn't there" [ "$(curl -sk -o "$work/out" -w '%{http_code}' "$site/folk/live")" = 404 ]
+fi
+
 # icecast2 as a relay: its listeners hear the station, also after the station was killed and begun anew.
 if has icecast2; then
     port=$(asking port)
@@ -187,7 +238,7 @@ check "a mirror of what is live holds its packets from the joining on" cmp <(tai
 
 # The units, and restarts as they make them.
 if has systemd-analyze; then
-    for unit in station archive@; do
+    for unit in station station@ archive@; do
         sed "s|/usr/local/bin/kudzuturret|$program|" "$top/examples/station/kudzuturret-$unit.service" >"$work/kudzuturret-$unit.service"
         systemd-analyze verify "$work/kudzuturret-$unit.service" >"$work/out" 2>&1
         status=$?

@@ -10,7 +10,7 @@ use Rattle.serve_texts.specs.declared.player.TheConstants.{PLAYER_FRONT}
 abbrev pub policy : List ℕ
 policy =
     codes "Content-Security-Policy: default-src 'none'; media-src 'self'; connect-src 'self'; "
-    ++ codes "script-src 'sha256-nFNxPrghRFgqZN/q6QXxQm1KLfMVo3pPfMup2ua2C3o='; "
+    ++ codes "script-src 'sha256-5tRHjfYV6Gcn7zj1OWVReUyvHCvD/ZpwlV0fjFUAh+g='; "
     ++ codes "style-src 'sha256-3pDcjRC5yy3sAgDRNaks7UqVcmHxMwcWhl3aPzChUEM='; "
     ++ codes "base-uri 'none'; form-action 'none'; frame-ancestors 'none'"
 

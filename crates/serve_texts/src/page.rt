@@ -1,7 +1,8 @@
 //! The player: a page for a browser.
 //!
 //! Without scripts it is a plain page that plays `/live` and has links. With its script it says whether something is
-//! recorded, and lists the links of the file, each to be played or fetched. Nothing of it comes from elsewhere.
+//! recorded, and lists the links of the file, each to be played or fetched. Nothing of it comes from elsewhere. What it
+//! asks for stands beside it, so that it works under any path that another server gives a station.
 //!
 //! The policy in `player.rt`, and that in `specs/Player.antt`, has the hashes of the page's style and of its script. With
 //! another style or script they have others: for what stands between the tags, `openssl dgst -sha256 -binary | base64`
@@ -67,7 +68,7 @@ nav a {
 <section aria-labelledby="live-title">
 <h2 id="live-title">Live</h2>
 <p id="state" role="status" aria-live="polite"></p>
-<audio id="live" controls preload="none" src="/live" aria-label="What is recorded now"></audio>
+<audio id="live" controls preload="none" src="live" aria-label="What is recorded now"></audio>
 </section>
 <section id="recorded" aria-labelledby="recorded-title" hidden>
 <h2 id="recorded-title">Recorded</h2>
@@ -78,10 +79,10 @@ nav a {
 <nav aria-labelledby="files-title">
 <h2 id="files-title">As files</h2>
 <ul role="list">
-<li><a href="/live">What is recorded now</a></li>
-<li><a href="/all">All that was recorded</a></li>
-<li><a href="/">List of what was recorded</a></li>
-<li><a href="/status">Numbers of the station</a></li>
+<li><a href="live">What is recorded now</a></li>
+<li><a href="all">All that was recorded</a></li>
+<li><a href="./">List of what was recorded</a></li>
+<li><a href="status">Numbers of the station</a></li>
 </ul>
 </nav>
 <script>
@@ -127,7 +128,7 @@ live.addEventListener("play", () => {
 
 // Lets go of the stream. What is played next is what is recorded then.
 function letGo() {
-  live.src = "/live";
+  live.src = "live";
 }
 
 live.addEventListener("pause", () => {
@@ -213,7 +214,7 @@ function newRow(number) {
     const audio = document.createElement("audio");
     audio.controls = true;
     audio.preload = "none";
-    audio.src = "/link/" + number;
+    audio.src = "link/" + number;
     audio.setAttribute("aria-label", "Player of " + name);
     actions.before(audio);
     play.remove();
@@ -221,7 +222,7 @@ function newRow(number) {
     audio.play().catch(() => {});
   });
   const fetched = add(actions, "a");
-  fetched.href = "/link/" + number;
+  fetched.href = "link/" + number;
   fetched.download = "link-" + number + ".ogg";
   fetched.textContent = "Download";
   fetched.setAttribute("aria-label", "Download " + name);
@@ -259,8 +260,8 @@ async function textOf(path) {
 async function refresh() {
   try {
     if (!document.hidden) {
-      sayState(await textOf("/status"));
-      showLinks(linksOf(await textOf("/")));
+      sayState(await textOf("status"));
+      showLinks(linksOf(await textOf("./")));
     }
   } catch (fault) {
     since = 0;

@@ -12,7 +12,7 @@ pub const PLAYER_FRONT: &[u8] = b"HTTP/1.1 200 OK\r\n\
     Cache-Control: no-store\r\n\
     X-Content-Type-Options: nosniff\r\n\
     Content-Security-Policy: default-src 'none'; media-src 'self'; connect-src 'self'; \
-    script-src 'sha256-nFNxPrghRFgqZN/q6QXxQm1KLfMVo3pPfMup2ua2C3o='; \
+    script-src 'sha256-5tRHjfYV6Gcn7zj1OWVReUyvHCvD/ZpwlV0fjFUAh+g='; \
     style-src 'sha256-3pDcjRC5yy3sAgDRNaks7UqVcmHxMwcWhl3aPzChUEM='; \
     base-uri 'none'; form-action 'none'; frame-ancestors 'none'\r\n\
     Connection: close\r\n";

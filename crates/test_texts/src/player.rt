@@ -64,11 +64,11 @@ fn it_plays_without_its_script(rt: HostRuntime) {
     let needed: [&[u8]; 7] = [
         b"<html lang=\"en\">",
         b"<meta name=\"viewport\"",
-        b"controls preload=\"none\" src=\"/live\"",
-        b"<a href=\"/live\">",
-        b"<a href=\"/all\">",
-        b"<a href=\"/\">",
-        b"<a href=\"/status\">",
+        b"controls preload=\"none\" src=\"live\"",
+        b"<a href=\"live\">",
+        b"<a href=\"all\">",
+        b"<a href=\"./\">",
+        b"<a href=\"status\">",
     ];
     for &text in &needed {
         assert!(rt; find(PLAYER, text).is_some());
