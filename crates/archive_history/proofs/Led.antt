@@ -1,17 +1,20 @@
 -- What calls of a folder lead to.
 use Rattle.std.specs.Prelude.{◌≡◌, ◌≢◌, ◌⊎◌, ℕ, List, [], Option, None, Some, refl, ⊤}
-use Rattle.std.proofs.Common.{⊎_elim, sym, ◌∙◌, ap, subst, inr}
+use Rattle.std.proofs.Common.{⊎_elim, sym, ◌∙◌, ap, subst, inl, inr}
 use Rattle.disk_model.specs.declared.disk.Disk.{Ghosts as DiskModel}
 use Rattle.disk_model.specs.Image.{settled}
 use Rattle.archive_folder.specs.declared.names.Name.{Name}
 use Rattle.archive_folder.specs.Names.{AreBelow, made, removed, synced}
 use Rattle.archive_folder.specs.NamesLaws.{left_of_made, left_of_removed}
 use Rattle.archive_folder.specs.Clock.{HasLeft, NamesPass, MayHaveMade, MayHaveRemoved}
-use Rattle.archive_history.specs.Archive.{archive, Newest, Archive, names, Making, Throwing, Asking, Syncing, begun_by, set_aside, with_new, Resolves}
-use Rattle.archive_history.specs.History.{Point, point, with_disk, Called, SetAside, IfNewest, IsNotNewest, LeavesNames, IsEmptyAt}
+use Rattle.archive_history.specs.Archive.{archive, Newest, Archive, names, Making, Throwing, Asking, Syncing, with_world, begun_by, recorded, ended_with, set_aside, with_new, Resolves}
+use Rattle.archive_history.specs.History.{Point, point, with_disk, Called, Recorded, Ended, SetAside, Resumed, IfNewest, IsAnswer, IsOnly, IsSafe, Resumes, IsNotNewest, LeavesNames, IsEmptyAt}
+use Rattle.archive_folder.specs.declared.names.Fate.TheVariants.{Stays}
+use Rattle.history.specs.World.{Step, Flushed, Sealed, happens}
+use Rattle.history.specs.History.{IsStep}
 use Rattle.archive_history.specs.Leading.{Leads, by_event, and_then}
 use Rattle.archive_history.proofs.Events.{making, failed_making, throwing, failed_throwing, same_files, same_account}
-use Rattle.archive_history.proofs.Starting.{aside_names}
+use Rattle.archive_history.proofs.Starting.{aside_names, ended_names, recorded_names, resumed_names}
 use Rattle.archive_history.proofs.NewFiles.{at_same, at_other, settled_resolve, new_names, leaves_names, any_empty}
 
 module _ {F D S C : Type 0} (names_in : F → List Name) (moment : F → ℕ) (left_since : F → ℕ → List ℕ → Type 0) (model : DiskModel D)
@@ -42,6 +45,77 @@ module _ {F D S C : Type 0} (names_in : F → List Name) (moment : F → ℕ) (l
   synced_leads a b disks old new same laws time are now =
       by_event names_in moment left_since model shows accepts next first a b (Called Syncing) (point old disks) (point new disks)
       (tt, tt, (leaves_same a old new same laws time, refl), are, tt) now
+
+  -- a step of the newest file's recorder
+  pub recorded_leads : (a : Archive C) (file : Newest C) (disks : ℕ → D) (folder : F) (step : Step C) (disk : D) → a.newest ≡ Some file → names_in folder ≡ names a → IsAnswer step
+      → IsSafe file.name.fate (happens file.world step) → IsStep model shows accepts next first file.world step (disks file.name.number) disk
+      → LeadsTo a (point folder disks) (recorded a step) (point folder (with_disk file.name.number disk disks))
+  recorded_leads a file disks folder step disk is same answer safe it =
+      let n = file.name.number in
+      let after = with_disk n disk disks in
+      let here : IsStep model shows accepts next first file.world step (disks n) (after n) = subst (λ (d : D). IsStep model shows accepts next first file.world step (disks n) d) (sym (at_same n disk disks)) it in
+      by_event names_in moment left_since model shows accepts next first a (recorded a step) (Recorded step) (point folder disks) (point folder after) (
+        subst (λ (newest : Option (Newest C)). IfNewest newest (λ (file : Newest C). IsAnswer step × IsStep model shows accepts next first file.world step (disks file.name.number) (after file.name.number)
+            × ((m : ℕ) → m ≢ file.name.number → after m ≡ disks m) × IsSafe file.name.fate (happens file.world step))) (sym is)
+            (answer, here, (λ m other. at_other n m disk disks other), safe),
+        refl,
+        refl,
+      )
+      (same ∙ sym (recorded_names a step))
+
+  pub ended_leads : (a : Archive C) (file : Newest C) (disks : ℕ → D) (folder : F) (bytes : List ℕ) → a.newest ≡ Some file → names_in folder ≡ names a → file.world.in_doubt ≡ []
+      → IsOnly bytes (model.state (disks file.name.number)) → LeadsTo a (point folder disks) (ended_with a bytes) (point folder disks)
+  ended_leads a file disks folder bytes is same none only =
+      by_event names_in moment left_since model shows accepts next first a (ended_with a bytes) (Ended bytes) (point folder disks) (point folder disks) (
+        subst (λ (newest : Option (Newest C)). IfNewest newest (λ (file : Newest C). IsOnly bytes (model.state (disks file.name.number)) × (file.world.in_doubt ≡ []))) (sym is) (only, none),
+        refl,
+        refl,
+      )
+      (same ∙ sym (ended_names a bytes))
+
+  -- what waits is kept, the file is sealed, and it has ended
+  pub sealed_leads : (a : Archive C) (file : Newest C) (disks : ℕ → D) (folder : F) (disk : D) (bytes : List ℕ) → a.newest ≡ Some file → names_in folder ≡ names a → file.name.fate ≡ Stays
+      → IsStep model shows accepts next first file.world Flushed (disks file.name.number) disk → IsStep model shows accepts next first (happens file.world Flushed) Sealed disk disk
+      → IsOnly bytes (model.state disk)
+      → (b : Archive C) × (b.newest ≡ None) × (names_in folder ≡ names b) × LeadsTo a (point folder disks) b (point folder (with_disk file.name.number disk disks))
+  sealed_leads a file disks folder disk bytes is same stays flush seal only =
+      let n = file.name.number in
+      let after = with_disk n disk disks in
+      let file1 : Newest C = record { name = file.name; world = happens file.world Flushed } in
+      let file2 : Newest C = record { name = file.name; world = happens (happens file.world Flushed) Sealed } in
+      let a1 = recorded a Flushed in
+      let a2 = recorded a1 Sealed in
+      let is1 : a1.newest ≡ Some file1 = ap (λ (newest : Option (Newest C)). with_world (λ w. happens w Flushed) newest) is in
+      let is2 : a2.newest ≡ Some file2 = ap (λ (newest : Option (Newest C)). with_world (λ w. happens w Sealed) newest) is1 in
+      let here : after n ≡ disk = at_same n disk disks in
+      let same1 : names_in folder ≡ names a1 = same ∙ sym (recorded_names a Flushed) in
+      let same2 : names_in folder ≡ names a2 = same1 ∙ sym (recorded_names a1 Sealed) in
+      let first_lead = recorded_leads a file disks folder Flushed disk is same tt (inl stays) flush in
+      let second_lead : LeadsTo a1 (point folder after) a2 (point folder after) = by_event names_in moment left_since model shows accepts next first a1 a2 (Recorded Sealed) (point folder after) (point folder after) (
+        subst (λ (newest : Option (Newest C)). IfNewest newest (λ (file : Newest C). IsAnswer {C = C} Sealed × IsStep model shows accepts next first file.world Sealed (after file.name.number) (after file.name.number)
+            × ((m : ℕ) → m ≢ file.name.number → after m ≡ after m) × IsSafe file.name.fate (happens file.world Sealed))) (sym is1)
+            (tt, subst (λ (d : D). IsStep model shows accepts next first (happens file.world Flushed) Sealed d d) (sym here) seal, (λ m other. refl), inl stays),
+        refl,
+        refl,
+      )
+      same2 in
+      let third_lead = ended_leads a2 file2 after folder bytes is2 same2 refl (subst (λ (d : D). IsOnly bytes (model.state d)) (sym here) only) in
+      let b = ended_with a2 bytes in (
+        b,
+        refl,
+        same2 ∙ sym (ended_names a2 bytes),
+        and_then names_in moment left_since model shows accepts next first a a2 b (point folder disks) (point folder after) (point folder after)
+            (and_then names_in moment left_since model shows accepts next first a a1 a2 (point folder disks) (point folder after) (point folder after) first_lead second_lead) third_lead,
+      )
+
+  pub aside_leads : (a : Archive C) (file : Newest C) (here : Point F D) → a.newest ≡ Some file → names_in here.folder ≡ names a → LeadsTo a here (set_aside a) here
+  aside_leads a file here is same =
+      by_event names_in moment left_since model shows accepts next first a (set_aside a) SetAside here here
+      (subst (λ (newest : Option (Newest C)). IfNewest newest (λ (file : Newest C). ⊤)) (sym is) tt, refl, refl) (same ∙ sym (aside_names a))
+
+  pub resumed_leads : (a b : Archive C) (here : Point F D) → Resumes a b → names_in here.folder ≡ names a → LeadsTo a here b here
+  resumed_leads a b here is same =
+      by_event names_in moment left_since model shows accepts next first a b Resumed here here (is, refl) (same ∙ sym (resumed_names a b is))
 
   pub threw_leads : (a b : Archive C) (n : ℕ) (disks : ℕ → D) (old new : F) → IsNotNewest n a.newest → names_in old ≡ names a → Left old → Passes old new (removed n (names_in old))
       → Resolves (begun_by a (Throwing n)) b → names_in new ≡ names b → LeadsTo a (point old disks) b (point new disks)

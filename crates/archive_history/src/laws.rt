@@ -1,15 +1,17 @@
 //! What every history of an archive keeps.
-ghost use Rattle.std.specs.Prelude.{◌≡◌, ◌⊎◌, [], ◌∷◌, ◌++◌, None, ℕ, List};
+ghost use Rattle.std.specs.Prelude.{◌≡◌, ◌⊎◌, [], ◌∷◌, ◌++◌, None, Some, ℕ, List};
 ghost use Rattle.disk_model.specs.Image.{DiskState, IsImage, IsSettled};
 ghost use Rattle.archive_folder.specs.declared.names.Name.{Name};
 ghost use Rattle.archive_folder.specs.Clock.{MayHaveMade, MayHaveRemoved, NamesPass};
 ghost use Rattle.archive_folder.specs.Names.{IsLeft, AreRising, listed, made, removed, synced, restarted};
 ghost use Rattle.history.specs.Commands.{IsPartOf};
-ghost use Rattle.history.specs.World.{Step};
-ghost use Rattle.archive_history.specs.Archive.{Archive, Move, Making, Throwing, nothing, names, begun_by, recorded, ended_with, set_aside, shut, Resolves, acknowledged, all_acknowledged};
+ghost use Rattle.archive_folder.specs.declared.names.Fate.TheVariants.{Stays};
+ghost use Rattle.history.specs.World.{Step, Flushed, Sealed, happens};
+ghost use Rattle.history.specs.History.{IsStep};
+ghost use Rattle.archive_history.specs.Archive.{Archive, Newest, Move, Making, Throwing, nothing, names, begun_by, recorded, ended_with, set_aside, shut, Resolves, acknowledged, all_acknowledged};
 ghost use Rattle.archive_history.specs.Showing.{numbers, ShowsArchive, ShowsCommands};
 ghost use Rattle.archive_history.specs.Accounted.{StandsAs};
-ghost use Rattle.archive_history.specs.History.{Point, Event, IsNotNewest, IsOnly, IsImageOf, MayMove, LeavesAll, LeavesNames, WasImage, IsEvent, IsArchiveHistory, Resumes, ThrowsNothing, answered};
+ghost use Rattle.archive_history.specs.History.{Point, point, with_disk, IsAnswer, IsSafe, Event, IsNotNewest, IsOnly, IsImageOf, MayMove, LeavesAll, LeavesNames, WasImage, IsEvent, IsArchiveHistory, Resumes, ThrowsNothing, answered};
 ghost use Rattle.archive_history.specs.Leading.{Leads};
 ghost use Rattle.archive_history.specs.Starting.{AllStay, EndsEmpty, LastFile};
 
@@ -140,6 +142,56 @@ pub fn events_lead_on<D: Disk, F: Folder<File = D>, B: Recordings>()
 {
     disks_stand_in_their_world::<D, B>();
 }
+
+/// What calls lead to that change no name, a sync of the folder, and what is done with the newest file.
+pub fn calls_lead_on<D: Disk, F: Folder<File = D>, B: Recordings>()
+    // Names are listed, a file is opened or given back.
+    ensures asking { (first : B.State) (a : Archive B.Command) (disks : ℕ → D) (old new : F)
+        → F.is_honest old
+        → NamesPass (F.moment old) (F.moment new) (F.left_since old) (F.left_since new) (F.names old)
+        → F.names new ≡ F.names old → F.names old ≡ names a
+        → Leads F.names F.moment F.left_since D.Disk B.shows B.accepts B.next
+        first a (point old disks) a (point new disks) }
+    ensures syncing { (first : B.State) (a : Archive B.Command) (disks : ℕ → D) (old new : F)
+        → F.is_honest old
+        → NamesPass (F.moment old) (F.moment new) (F.left_since old) (F.left_since new) (F.names old)
+        → F.names new ≡ synced (F.names old) → F.names old ≡ names a
+        → (b : Archive B.Command) × Resolves a b × (F.names new ≡ names b)
+        × Leads F.names F.moment F.left_since D.Disk B.shows B.accepts B.next
+        first a (point old disks) b (point new disks) }
+    // A step of the newest file's recorder, if what it acknowledges can't be lost with the file's name.
+    ensures recording { (first : B.State) (a : Archive B.Command) (file : Newest B.Command) (disks : ℕ → D) (folder : F)
+        (step : Step B.Command) (disk : D)
+        → a.newest ≡ Some file → F.names folder ≡ names a → IsAnswer step → IsSafe file.name.fate (happens file.world step)
+        → IsStep D.Disk B.shows B.accepts B.next first file.world step (disks file.name.number) disk
+        → Leads F.names F.moment F.left_since D.Disk B.shows B.accepts B.next
+        first a (point folder disks) (recorded a step) (point folder (with_disk file.name.number disk disks)) }
+    // The newest file has ended.
+    ensures ending { (first : B.State) (a : Archive B.Command) (file : Newest B.Command) (disks : ℕ → D) (folder : F) (bytes : List ℕ)
+        → a.newest ≡ Some file → F.names folder ≡ names a → file.world.in_doubt ≡ []
+        → IsOnly bytes (D.state (disks file.name.number))
+        → Leads F.names F.moment F.left_since D.Disk B.shows B.accepts B.next
+        first a (point folder disks) (ended_with a bytes) (point folder disks) }
+    // What waited in it is kept, it is sealed, and it has ended.
+    ensures sealing { (first : B.State) (a : Archive B.Command) (file : Newest B.Command) (disks : ℕ → D) (folder : F) (disk : D) (bytes : List ℕ)
+        → a.newest ≡ Some file → F.names folder ≡ names a → file.name.fate ≡ Stays
+        → IsStep D.Disk B.shows B.accepts B.next first file.world Flushed (disks file.name.number) disk
+        → IsStep D.Disk B.shows B.accepts B.next first (happens file.world Flushed) Sealed disk disk
+        → IsOnly bytes (D.state disk)
+        → (b : Archive B.Command) × (b.newest ≡ None) × (F.names folder ≡ names b)
+        × Leads F.names F.moment F.left_since D.Disk B.shows B.accepts B.next
+        first a (point folder disks) b (point folder (with_disk file.name.number disk disks)) }
+    // It is left exactly as it is.
+    ensures setting_aside { (first : B.State) (a : Archive B.Command) (file : Newest B.Command) (here : Point F D)
+        → a.newest ≡ Some file → F.names here.folder ≡ names a
+        → Leads F.names F.moment F.left_since D.Disk B.shows B.accepts B.next
+        first a here (set_aside a) here }
+    // It is the newest again.
+    ensures resuming { (first : B.State) (a b : Archive B.Command) (here : Point F D)
+        → Resumes a b → F.names here.folder ≡ names a
+        → Leads F.names F.moment F.left_since D.Disk B.shows B.accepts B.next
+        first a here b here }
+{}
 
 /// What the folder's clauses say of its names is what the account says: of a making, a removal and a sync, and of every
 /// stop.

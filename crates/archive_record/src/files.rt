@@ -4,14 +4,14 @@ ghost use Rattle.disk_model.specs.Image.{settled};
 ghost use Rattle.disk_model.specs.Fault.{HasCause, Rises};
 ghost use Rattle.archive_folder.specs.Names.{AreBelow, Kept, IsKept, Out, numbers_of, listed, made, removed, synced};
 ghost use Rattle.archive_folder.specs.Clock.{MayHaveRemoved};
-ghost use Rattle.archive_record.specs.Account.{Stands};
+ghost use Rattle.archive_record.specs.Account.{LeadsTo, Stands};
 ghost use Rattle.archive_record.specs.Files.{highest, AllKept, IsKnown, NoneOrBelow, without};
 ghost use Rattle.ogg_command.specs.declared.command.Command.{Command as CommandOf};
-ghost use Rattle.archive_history.specs.Archive.{Archive as Account, Making, Throwing, begun_by, with_new, Resolves};
+ghost use Rattle.archive_history.specs.Archive.{Archive as Account, Making, Throwing, begun_by, names, with_new, Resolves};
 ghost use Rattle.archive_history.specs.History.{IsNotNewest, LeavesNames, MayHaveBegun, with_disk};
 
 use archive_folder::{FileFacts, FileName, Folder};
-use archive_history::{begin_file, throw_away};
+use archive_history::{begin_file, calls_lead_on, events_lead_on, throw_away};
 use disk_model::{Disk, DiskFault, Memory};
 use file_recorder::{Recorded, images_show_one_recording};
 use std::alloc::Global;
@@ -66,6 +66,11 @@ impl<F: Folder> Files<F> {
         ensures files { IfOk result (λ files. F.is_honest folder → F.file files.folder ≡ F.file folder) }
         ensures next { IfOk result (λ files. SomeIff files.next (highest (numbers_of files.files) + 1 < 2 ^ 64)
             (highest (numbers_of files.files) + 1)) }
+        // Events of the law lead there, to an account of which no name is in doubt.
+        ensures leads { IfOk result (λ files. F.is_honest folder → (a : Account CommandOf) (disks : ℕ → F.File)
+            → F.names folder ≡ names a
+            → (b : Account CommandOf) × Resolves a b × (F.names files.folder ≡ names b)
+            × LeadsTo F.names F.moment F.left_since F.File.Disk a folder disks b files.folder disks) }
         ensures honest { IfOk result (λ files. F.is_honest folder ↔ F.is_honest files.folder) }
         ensures honest_err { IfErr result (λ e. F.is_honest folder ↔ F.is_honest e.1) }
         ensures cause { IfErr result (λ e. Rises (F.failures folder) (F.failures e.1)) }
@@ -147,6 +152,16 @@ impl<F: Folder> Files<F> {
             → Stands F.names F.File.Disk a self.old.folder disks
             → (b : Account CommandOf) × (after : ℕ → F.File) × Resolves (begun_by a (Making n)) b
             × Stands F.names F.File.Disk b self.new.folder after }
+        // Events of the law lead there, and after a fault to an account in which no file is written.
+        ensures leads { IfOk result (λ (name, disk). F.is_honest self.old.folder → (a : Account CommandOf) (disks : ℕ → F.File)
+            → a.newest ≡ None → F.names self.old.folder ≡ names a
+            → LeadsTo F.names F.moment F.left_since F.File.Disk a self.old.folder disks
+            (with_new name.number a) self.new.folder (with_disk name.number disk disks)) }
+        ensures unbegun_leads { result ≡ Err BeginFault.Folder → F.is_honest self.old.folder
+            → (a : Account CommandOf) (disks : ℕ → F.File)
+            → a.newest ≡ None → F.names self.old.folder ≡ names a
+            → (b : Account CommandOf) × (after : ℕ → F.File) × (b.newest ≡ None)
+            × LeadsTo F.names F.moment F.left_since F.File.Disk a self.old.folder disks b self.new.folder after }
         // A stop at any moment leaves what was there, without the new file or with it.
         ensures any_moment { F.is_honest self.old.folder → (n : ℕ) → self.old.next ≡ Some n → result ≢ Err BeginFault.Memory
             → LeavesNames F.moment F.left_since (made n (F.names self.old.folder)) self.old.folder self.new.folder }
@@ -190,9 +205,16 @@ impl<F: Folder> Files<F> {
         ensures files { self.new.files ≡ self.old.files }
         ensures next { self.new.next ≡ self.old.next }
         ensures names { F.is_honest self.old.folder → F.names self.new.folder ≡ F.names self.old.folder }
+        // An event of the law leads there, whatever the answer.
+        ensures leads { F.is_honest self.old.folder → (a : Account CommandOf) (disks : ℕ → F.File)
+            → F.names self.old.folder ≡ names a
+            → LeadsTo F.names F.moment F.left_since F.File.Disk a self.old.folder disks a self.new.folder disks }
         ensures honest { F.is_honest self.old.folder ↔ F.is_honest self.new.folder }
         ensures cause { HasCause (F.failures self.old.folder) (F.failures self.new.folder) result }
     {
+        // For the proof alone.
+        calls_lead_on::<F::File, F, Recorded>();
+        events_lead_on::<F::File, F, Recorded>();
         let [.., name] = self.files.as_slice() else {
             return Ok(None);
         };
@@ -216,8 +238,14 @@ impl<F: Folder> Files<F> {
         ensures names { F.is_honest self.old.folder → F.names self.new.folder ≡ F.names self.old.folder }
         ensures others { F.is_honest self.old.folder
             → (n : ℕ) → n ≢ number → F.file self.new.folder n ≡ F.file self.old.folder n }
+        // An event of the law leads there, whatever the answer.
+        ensures leads { F.is_honest self.old.folder → (a : Account CommandOf) (disks : ℕ → F.File)
+            → F.names self.old.folder ≡ names a
+            → LeadsTo F.names F.moment F.left_since F.File.Disk a self.old.folder disks a self.new.folder disks }
         ensures honest { F.is_honest self.old.folder ↔ F.is_honest self.new.folder }
     {
+        // For the proof alone.
+        calls_lead_on::<F::File, F, Recorded>();
         self.folder.give_back(number, disk);
         self.out = None;
     }
@@ -234,9 +262,15 @@ impl<F: Folder> Files<F> {
         ensures out { self.new.out ≡ self.old.out }
         ensures names { F.is_honest self.old.folder → F.names self.new.folder ≡ F.names self.old.folder }
         ensures places { F.is_honest self.old.folder → F.file self.new.folder ≡ F.file self.old.folder }
+        // An event of the law leads there, whatever the answer.
+        ensures leads { F.is_honest self.old.folder → (a : Account CommandOf) (disks : ℕ → F.File)
+            → F.names self.old.folder ≡ names a
+            → LeadsTo F.names F.moment F.left_since F.File.Disk a self.old.folder disks a self.new.folder disks }
         ensures honest { F.is_honest self.old.folder ↔ F.is_honest self.new.folder }
         ensures cause { HasCause (F.failures self.old.folder) (F.failures self.new.folder) result }
     {
+        // For the proof alone.
+        calls_lead_on::<F::File, F, Recorded>();
         self.folder.facts(name)
     }
 
@@ -265,6 +299,15 @@ impl<F: Folder> Files<F> {
             → Stands F.names F.File.Disk a self.old.folder disks
             → (b : Account CommandOf) × Resolves (begun_by a (Throwing name.number)) b
             × Stands F.names F.File.Disk b self.new.folder disks) }
+        // An event of the law leads there.
+        ensures leads { result ≡ Ok true → F.is_honest self.old.folder → (a : Account CommandOf) (disks : ℕ → F.File)
+            → IsNotNewest name.number a.newest → F.names self.old.folder ≡ names a
+            → LeadsTo F.names F.moment F.left_since F.File.Disk a self.old.folder disks
+            (begun_by a (Throwing name.number)) self.new.folder disks }
+        ensures unthrown_leads { OnErr result (F.is_honest self.old.folder → (a : Account CommandOf) (disks : ℕ → F.File)
+            → IsNotNewest name.number a.newest → F.names self.old.folder ≡ names a
+            → (b : Account CommandOf) × (b.newest ≡ a.newest)
+            × LeadsTo F.names F.moment F.left_since F.File.Disk a self.old.folder disks b self.new.folder disks) }
         // A stop at any moment leaves what was there, with this file or without it.
         ensures any_moment { F.is_honest self.old.folder → self.old.out ≢ Some name.number
             → LeavesNames F.moment F.left_since (removed name.number (F.names self.old.folder)) self.old.folder self.new.folder }
@@ -308,9 +351,16 @@ fn list_synced<F: Folder>(alloc: Global, folder: &mut F) -> Result<Vec<FileName>
     ensures names { OnOk result (F.is_honest folder.old
         → F.names folder.new ≡ synced (F.names folder.old)) }
     ensures files { F.is_honest folder.old → F.file folder.new ≡ F.file folder.old }
+    ensures leads { OnOk result (F.is_honest folder.old → (a : Account CommandOf) (disks : ℕ → F.File)
+        → F.names folder.old ≡ names a
+        → (b : Account CommandOf) × Resolves a b × (F.names folder.new ≡ names b)
+        × LeadsTo F.names F.moment F.left_since F.File.Disk a folder.old disks b folder.new disks) }
     ensures honest { F.is_honest folder.old ↔ F.is_honest folder.new }
     ensures cause { OnErr result (Rises (F.failures folder.old) (F.failures folder.new)) }
 {
+    // For the proof alone.
+    calls_lead_on::<F::File, F, Recorded>();
+    events_lead_on::<F::File, F, Recorded>();
     folder.sync()?;
     folder.list(alloc)
 }

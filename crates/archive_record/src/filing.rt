@@ -2,7 +2,11 @@
 ghost use Rattle.std.specs.Prelude.{◌≡◌, ◌≢◌, ◌<◌, ◌++◌, [], ℕ, IfOk, IfErr, IfSome, OnOk, OnErr, None, Some, Ok, Err, true, false};
 ghost use Rattle.disk_model.specs.Image.{settled};
 ghost use Rattle.archive_folder.specs.Names.{made, synced};
-ghost use Rattle.file_recorder.specs.Recorder.{committed, staged};
+ghost use Rattle.archive_folder.specs.declared.names.Fate.TheVariants.{Stays};
+ghost use Rattle.archive_history.specs.Archive.{Archive as Account, Newest as NewestOf, names};
+ghost use Rattle.ogg_command.specs.declared.command.Command.{Command as CommandOf};
+ghost use Rattle.file_recorder.specs.Recorder.{IsIn, committed, staged};
+ghost use Rattle.archive_record.specs.Account.{LeadsTo};
 ghost use Rattle.archive_record.specs.Files.{highest};
 ghost use Rattle.archive_record.specs.Filing.{HasExactly};
 ghost use Rattle.archive_record.specs.Resting.{IsAtRest};
@@ -13,8 +17,9 @@ use crate::ending::end_open;
 use crate::files::Files;
 use crate::opening::open_sound;
 use archive_folder::{FileName, Folder};
+use archive_history::{calls_are_events, calls_lead_on, events_lead_on};
 use disk_model::{Disk, DiskFault};
-use file_recorder::Recorder;
+use file_recorder::{Recorded, Recorder};
 use gate_file::OpenFault;
 use std::alloc::Global;
 
@@ -164,6 +169,13 @@ pub(crate) fn end_group<D: Disk + Drop, F: Folder<File = D>>(
     // A file that has ended has what was committed and what waited, whatever stops, and nothing else.
     ensures ended { OnOk result (F.is_honest files.old.folder → D.is_honest recorder.file.disk
         → HasExactly D.Disk (F.file files.new.folder) name.number (committed D.state recorder ++ staged D.state recorder)) }
+    // Events of the law lead there: what waited is kept, the file is sealed, it has ended, and it is given back.
+    ensures leads { OnOk result (F.is_honest files.old.folder → D.is_honest recorder.file.disk
+        → (a : Account CommandOf) (file : NewestOf CommandOf) (disks : ℕ → D)
+        → a.newest ≡ Some file → file.name.fate ≡ Stays → IsIn D.Disk [] file.world recorder
+        → disks file.name.number ≡ recorder.file.disk → F.names files.old.folder ≡ names a
+        → (b : Account CommandOf) × (after : ℕ → D) × (b.newest ≡ None)
+        × LeadsTo F.names F.moment F.left_since D.Disk a files.old.folder disks b files.new.folder after) }
     ensures failed { IfErr result (λ back. back.file.failed ≡ true) }
     ensures front { D.is_honest recorder.file.disk → IfErr result (λ back. committed D.state back ≡ committed D.state recorder) }
     ensures none { OnOk result (files.new.out ≡ None) }
@@ -174,6 +186,10 @@ pub(crate) fn end_group<D: Disk + Drop, F: Folder<File = D>>(
     ensures others { F.is_honest files.old.folder
         → (n : ℕ) → n ≢ name.number → F.file files.new.folder n ≡ F.file files.old.folder n }
 {
+    // For the proof alone.
+    calls_are_events::<Recorded>();
+    calls_lead_on::<D, F, Recorded>();
+    events_lead_on::<D, F, Recorded>();
     if recorder.is_failed() {
         return Err(recorder);
     }

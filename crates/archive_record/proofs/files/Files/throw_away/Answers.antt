@@ -1,5 +1,7 @@
 use Rattle.std.proofs.Common.{◌≡◌, ◌∙◌, ◌≢◌, ap, sym, Some, Contains, subst, List, [], false, true}
-use Rattle.archive_record.specs.Account.{Stands}
+use Rattle.ogg_command.specs.declared.command.Command.{Command}
+use Rattle.archive_history.specs.Archive.{Archive, Throwing, begun_by}
+use Rattle.archive_record.specs.Account.{LeadsTo, Stands}
 use Rattle.archive_folder.specs.declared.names.FileName.{FileName}
 use Rattle.archive_folder.specs.Names.{numbers_of}
 use Rattle.archive_record.specs.Files.{IsKnown}
@@ -44,4 +46,23 @@ returns-clause-unthrown g c =
       | in-Err w ↦ rw w.result-is (λ honest a disks other stands.
           w.in-Err.ensures.failed (subst g.F.Folder.is_honest (sym same) honest) [] a disks c.images_show_one_recording.ensures.new
           (subst (λ (f : _). Stands g.F.Folder.names g.F.File.Disk a f disks) (sym same) stands) other)
+    ]
+
+pub returns-clause-leads : goal.returns-clause-leads
+returns-clause-leads g c = λ is honest a disks other named.
+    let same : c.self.inside.folder ≡ c.args.self.now.folder = ap (λ (s : FilesState _). s.folder) c.self.view_is in
+    elim c.match-throw_away.branch [
+      | in-Ok w ↦ subst (λ (f : _). LeadsTo g.F.Folder.names g.F.Folder.moment g.F.Folder.left_since g.F.File.Disk a f disks (begun_by a (Throwing c.args.name.number)) c.throw_away.new.folder disks) same
+          (w.in-Ok.ensures.leads (subst g.F.Folder.is_honest (sym same) honest) [] a disks other (ap g.F.Folder.names same ∙ named))
+      | in-Err w ↦ let told = w.result-is in cc
+    ]
+
+pub returns-clause-unthrown_leads : goal.returns-clause-unthrown_leads
+returns-clause-unthrown_leads g c =
+    let same : c.self.inside.folder ≡ c.args.self.now.folder = ap (λ (s : FilesState _). s.folder) c.self.view_is in
+    elim c.match-throw_away.branch [
+      | in-Ok w ↦ rw w.result-is tt
+      | in-Err w ↦ rw w.result-is (λ honest a disks other named.
+          subst (λ (f : _). (b : Archive Command) × (b.newest ≡ a.newest) × LeadsTo g.F.Folder.names g.F.Folder.moment g.F.Folder.left_since g.F.File.Disk a f disks b c.throw_away.new.folder disks) same
+          (w.in-Err.ensures.failed_leads (subst g.F.Folder.is_honest (sym same) honest) [] a disks other (ap g.F.Folder.names same ∙ named)))
     ]
