@@ -5,6 +5,7 @@ use Rattle.serve_live.specs.Listening.{ListenerState}
 use Rattle.serve_clients.specs.Client.{ClientState}
 use Rattle.serve_clients.specs.Clients.{told_by}
 use Rattle.serve_clients.specs.Line.{new_line}
+use Rattle.station_hub.specs.declared.waking.Waking.{Waking}
 use Rattle.serve_clients.specs.declared.client.Stage.TheVariants.{Hearing, Reading, Sending}
 
 -- it has a session, or hears what is recorded
@@ -12,10 +13,9 @@ abbrev pub ReadsFile : Option ClientState → Type 0
 ReadsFile None = ⊥
 ReadsFile (Some client) = (client.stage ≡ Reading) ⊎ ((client.stage ≡ Sending) ⊎ (client.stage ≡ Hearing))
 
--- nothing was left to be heard when it was last asked, and all that was given is written
-abbrev pub HasHeardAll : Option ClientState → Type 0
-HasHeardAll None = ⊥
-HasHeardAll (Some client) = (client.stage ≡ Hearing) × (client.idle ≡ true) × (client.unsent ≡ [])
+-- another file is heard from its first byte on, and there is more for those who hear what is recorded
+abbrev pub anew : Waking → Waking
+anew waking = record waking { heard = 0; unheard = true }
 
 -- it comes from another station: nothing is known of its socket, and nothing was asked for it yet
 abbrev pub come : ClientState → ClientState

@@ -1,5 +1,5 @@
 //! A station goes over to another file: who reads the one before leaves for a station that serves it to its end.
-ghost use Rattle.std.specs.Prelude.{◌≡◌, ◌≢◌, ◌↔◌, ◌⊎◌, [], ℕ, None, Some, false, true, IfErr, IfOk, OnErr};
+ghost use Rattle.std.specs.Prelude.{◌≡◌, ◌≢◌, ◌↔◌, ◌⊎◌, [], ℕ, None, Some, false, true, IfErr, IfOk, OnErr, length};
 ghost use Rattle.slab.specs.Slab.{get};
 ghost use Rattle.gate_file.specs.Commit.{CommitsTo};
 ghost use Rattle.gate_file.specs.Gate.{EachImage};
@@ -12,8 +12,8 @@ ghost use Rattle.serve_clients.specs.Client.{ClientState};
 ghost use Rattle.serve_clients.specs.Clients.{HasTurn, OthersStay};
 ghost use Rattle.serve_clients.specs.declared.clients.Clients.{Clients as ClientsOf};
 ghost use Rattle.serve_clients.specs.Line.{new_line};
-ghost use Rattle.station.specs.Changing.{HasHeardAll, HearsAnew, ReadsFile, arrived, come};
-ghost use Rattle.station_hub.specs.Waking.{with_more};
+ghost use Rattle.station.specs.Changing.{HearsAnew, ReadsFile, anew, arrived, come};
+ghost use Rattle.station_hub.specs.Giving.{has_got_all};
 ghost use Rattle.serve_live.specs.Boundaries.{place_to_join};
 ghost use Rattle.station_hub.specs.Live.{RecordsLive};
 ghost use Rattle.station_sources.specs.Pending.{HasCome};
@@ -29,7 +29,7 @@ use import_record::{Answered, RecordFault, run_all};
 use serve_clients::{Client, Clients, Line, Stage};
 use serve_live::{JoinPlace, Listener};
 use slab::Slab;
-use station_hub::LiveHub;
+use station_hub::{LiveHub, Waking};
 use std::alloc::Global;
 use std::io;
 
@@ -51,6 +51,17 @@ fn insert(slots: &mut Slab<Client>, client: Client) -> Result<usize, Memory>
     match slots.insert(client) {
         Ok(key) => Ok(key),
         Err(_) => Err(Memory),
+    }
+}
+
+/// Another file is heard from its first byte on: there is more for those who hear what is recorded.
+fn anew(waking: Waking) -> Waking
+    ensures { result ≡ anew waking }
+{
+    Waking {
+        heard: 0,
+        unheard: true,
+        ..waking
     }
 }
 
@@ -112,12 +123,12 @@ impl<D: Disk + Drop> Station<D> {
         ensures clients { self.new.clients ≡ self.old.clients }
         ensures air { self.new.air ≡ self.old.air }
         ensures anew { self.new.reopened ≡ None }
-        ensures woken { self.new.waking ≡ with_more self.old.waking }
+        ensures woken { self.new.waking ≡ anew self.old.waking }
         ensures rest { self.new ≡ record self.old { live = live; reopened = None; waking = self.new.waking } }
     {
         let before = std::mem::replace(&mut self.live, live);
         self.reopened = None;
-        self.waking = self.waking.with_more();
+        self.waking = anew(self.waking);
         before
     }
 
@@ -185,14 +196,14 @@ impl<D: Disk + Drop> Station<D> {
         }
     }
 
-    /// Whether this connection hears what is recorded, and was given all of it when it was last asked.
+    /// Whether this connection hears what is recorded, and has got all of it.
     pub fn has_heard_all(&self, key: usize) -> bool
-        ensures { (result ≡ true) ↔ HasHeardAll (get self.now.clients.slots key) }
+        ensures some { (machine : HubState) (client : ClientState) → Shows D.Disk self.now.live.hub machine
+            → get self.now.clients.slots key ≡ Some client → result ≡ has_got_all (length machine.committed) client }
+        ensures none { get self.now.clients.slots key ≡ None → result ≡ false }
     {
         match self.clients.slots.get(key) {
-            Some(client) => {
-                client.stage == Stage::Hearing && client.idle && client.unsent().is_empty()
-            }
+            Some(client) => self.live.has_got_all(client),
             None => false,
         }
     }
