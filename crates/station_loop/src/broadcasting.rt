@@ -90,7 +90,9 @@ fn folder_station(
     let ended = run_at(rt, station, keeper, recorded, address, start, options.log)?;
     ended.ran?;
     let mut keeper = ended.keeper;
-    ended.recorded.close(ended.hub, options.seal, &mut keeper)
+    let closed = ended.recorded.close(ended.hub, options.seal, &mut keeper);
+    keeper.sync_ended();
+    closed
 }
 
 /// Opens a folder: its newest file is recorded into, or the next one.

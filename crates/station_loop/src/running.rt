@@ -37,6 +37,7 @@ impl<D: Disk + Drop, R: Recorded<D> + Drop> Running<'_, D, R> {
     /// Runs until a fault, or until the station has come to its end. A fault that was told is the last to be returned.
     pub fn run_to_end(&mut self) -> Result<(), Fault> {
         let ran = self.run();
+        self.keeper.sync_ended();
         self.keeper.told.close();
         ran?;
         match self.keeper.told.fault() {
