@@ -10,3 +10,4 @@ mod Removals
 mod Examples
 mod Starting
 mod Led
+mod KeptEnd

@@ -146,17 +146,17 @@ last_ended {C} ended n front rising stay ends same = ⊎_elim
     of_file ended n s number stays (below_last (names_of s.files) s.last (subst AreRising split_names rising)) (gone_empty s.files s.file s.gone (subst EndsEmpty s.is ends) s.no_names) s.file refl)
     (split ended)
 
-last_of : {C : Type 0} (ended : List (File C)) (newest : Option (Newest C)) (n : ℕ) (front : List ℕ) → AreRising (names (archive ended newest)) → AllStay (names (archive ended newest)) → EndsEmpty ended
+pub last_of : {C : Type 0} (ended : List (File C)) (newest : Option (Newest C)) (n : ℕ) (front : List ℕ) → AreRising (names (archive ended newest)) → AllStay (names (archive ended newest)) → (newest ≡ None → EndsEmpty ended)
     → listed (names (archive ended newest)) ≡ front ++ n ∷ [] → LastFile (archive ended newest) n
 last_of ended None n front rising stay ends same =
     let whole : names_of ended ++ [] ≡ names_of ended = append-nil (names_of ended) in
-    last_ended ended n front (subst AreRising whole rising) (subst AllStay whole stay) ends (sym (ap listed whole) ∙ same)
+    last_ended ended n front (subst AreRising whole rising) (subst AllStay whole stay) (ends refl) (sym (ap listed whole) ∙ same)
 last_of ended (Some file) n front rising stay ends same =
     let stays : file.name.fate ≡ Stays = stays_last (names_of ended) file.name stay in
     IsNewest file refl (same_last file.name.number n (listed (names_of ended)) front (sym (listed_last (names_of ended) file.name stays) ∙ same))
 
 pub last_file : {C : Type 0} (a : Archive C) (n : ℕ) (front : List ℕ) → AreRising (names a) → AllStay (names a) → EndsEmpty a.ended → listed (names a) ≡ front ++ n ∷ [] → LastFile a n
-last_file a n front = last_of a.ended a.newest n front
+last_file a n front rising stay ends same = last_of a.ended a.newest n front rising stay (λ none. ends) same
 
 -- what changes no name
 pub aside_names : {C : Type 0} (a : Archive C) → names (set_aside a) ≡ names a

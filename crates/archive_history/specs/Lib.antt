@@ -4,3 +4,4 @@ pub mod History
 pub mod Accounted
 pub mod Starting
 pub mod Leading
+pub mod Ending

@@ -12,6 +12,7 @@ ghost use Rattle.archive_history.specs.Archive.{Archive, Newest, Move, Making, T
 ghost use Rattle.archive_history.specs.Showing.{numbers, ShowsArchive, ShowsCommands};
 ghost use Rattle.archive_history.specs.Accounted.{StandsAs};
 ghost use Rattle.archive_history.specs.History.{Point, point, with_disk, IsAnswer, IsSafe, Event, IsNotNewest, IsOnly, IsImageOf, MayMove, LeavesAll, LeavesNames, WasImage, IsEvent, IsArchiveHistory, Resumes, ThrowsNothing, answered};
+ghost use Rattle.archive_history.specs.Ending.{EndIsSafe, KeepsLast};
 ghost use Rattle.archive_history.specs.Leading.{Leads};
 ghost use Rattle.archive_history.specs.Starting.{AllStay, EndsEmpty, LastFile};
 
@@ -142,6 +143,19 @@ pub fn events_lead_on<D: Disk, F: Folder<File = D>, B: Recordings>()
 {
     disks_stand_in_their_world::<D, B>();
 }
+
+/// What came after the last file whose name stays holds nothing, whatever happens, if the last such file is never thrown
+/// away: so who starts on a folder finds the last file that was recorded.
+pub fn the_last_file_is_kept<D: Disk, F: Folder<File = D>, B: Recordings>()
+    ensures begins { EndIsSafe (nothing {C = B.Command}) }
+    ensures event { (first : B.State) (a b : Archive B.Command) (event : Event B.Command) (old new : Point F D)
+        → IsEvent F.names F.moment F.left_since D.Disk B.shows B.accepts B.next
+        first a event b old new
+        → KeepsLast a event → EndIsSafe a → EndIsSafe b }
+    ensures found { (a : Archive B.Command) (n : ℕ) (front : List ℕ)
+        → AreRising (names a) → AllStay (names a) → EndIsSafe a
+        → listed (names a) ≡ front ++ n ∷ [] → LastFile a n }
+{}
 
 /// What calls lead to that change no name, a sync of the folder, and what is done with the newest file.
 pub fn calls_lead_on<D: Disk, F: Folder<File = D>, B: Recordings>()

@@ -17,6 +17,6 @@ mod throwing;
 pub use beginning::begin_file;
 pub use laws::{
     archives_keep_what_was_acknowledged, calls_are_events, calls_lead_on, calls_leave_names,
-    events_lead_on, folders_stand_as_their_account,
+    events_lead_on, folders_stand_as_their_account, the_last_file_is_kept,
 };
 pub use throwing::throw_away;
