@@ -412,7 +412,7 @@ def a_time(rng, files):
     kind = rng.randrange(4)
     if kind == 0:
         return rng.choice(marks) + rng.choice([-1, 0, 1])
-    return rng.randrange(START - 2000, last + 3000)
+    return rng.randrange(min([START, *marks]) - 2000, max([last, *marks]) + 3000)
 
 
 def cuts(program, count):
