@@ -52,7 +52,7 @@ impl<'a> Keeper<'a> {
         }
     }
 
-    /// Syncs the times of the file that ended last, unless that was done.
+    /// Syncs the times of the file that ended last, unless that was done. Call it when nothing waits to be told.
     pub fn sync_ended(&mut self) {
         if let Some(file) = self.ended.take() {
             let _ = OpenFile::sync_data(&file);
@@ -214,7 +214,7 @@ impl Beside for Keeper<'_> {
     }
 
     fn ended(&mut self, file: FileName, bytes: u64) {
-        self.sync_ended();
+        // If files end so fast that those of the file before aren't synced yet, the system writes them back in its time.
         self.ended = match self.times.take() {
             Some(Times { file, .. }) => Some(file),
             None => None,

@@ -353,6 +353,9 @@ impl<D: Disk + Drop, F: Folder<File = D> + Drop> Recording for FolderRecording<'
     }
 
     fn step(&mut self, import: &mut ImportRun, begins: bool) -> Result<bool, Fault> {
+        if self.archive.held() == 0 {
+            self.keeper.sync_ended();
+        }
         let last = self.take(import, begins)?;
         self.recover(import)?;
         Ok(last)
