@@ -83,7 +83,11 @@ fn folder_station(
     let _lock = lock_folder(rt, folder)?;
     let files = granted(SystemFolder::at(rt.alloc(), rt, ArchiveNames, folder))?;
     let mut keeper = Keeper::new(rt, folder, Told::new(rt, false, 0));
-    let readers = SystemReaders { rt, folder };
+    let readers = SystemReaders {
+        rt,
+        alloc: rt.alloc(),
+        folder,
+    };
     let rules = options.filing.rules(1024);
     let (hub, recorded) = open_folder(rt, files, &mut keeper, readers, rules, asked.most)?;
     let station = station_over(rt, hub, asked)?;

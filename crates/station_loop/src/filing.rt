@@ -10,7 +10,10 @@ use import_record::Answered;
 use serve_hub::Hub;
 use station::Done;
 use station_files::{Clocks, Filed, Readers, Stations};
-use std::fs::File;
+use std::alloc::Global;
+use std::fs::{File, OpenFile};
+use std::os::unix::fs::FileExt;
+use std::rt::Files as OpensFiles;
 
 /// What a station is recorded into.
 pub trait Recorded<D: Disk> {
@@ -139,25 +142,26 @@ pub fn fault_of(fault: ArchiveFault) -> Fault {
 
 /// Opens files of a folder of the system to read them.
 #[derive(Drop)]
-pub struct SystemReaders<'a> {
-    pub rt: &'a HostRuntime,
+pub struct SystemReaders<'a, F: OpenFile + FileExt + Drop, R: OpensFiles<File = F>> {
+    pub rt: R,
+    pub alloc: Global,
     /// With a slash at the end.
     pub folder: &'a str,
 }
 
-impl Readers<FileDisk<SystemFile<File>>> for SystemReaders<'_> {
-    fn open(&mut self, file: FileName) -> Option<FileDisk<SystemFile<File>>> {
-        let alloc = self.rt.alloc();
-        let Ok(name) = text_of(alloc, file, Kind::Pages) else {
+impl<F: OpenFile + FileExt + Drop, R: OpensFiles<File = F>> Readers<FileDisk<SystemFile<F>>>
+    for SystemReaders<'_, F, R> {
+    fn open(&mut self, file: FileName) -> Option<FileDisk<SystemFile<F>>> {
+        let Ok(name) = text_of(self.alloc, file, Kind::Pages) else {
             return None;
         };
-        let Ok(mut path) = String::from_str(alloc, self.folder) else {
+        let Ok(mut path) = String::from_str(self.alloc, self.folder) else {
             return None;
         };
         if path.push_str(name.as_str()).is_err() {
             return None;
         }
-        match File::open(self.rt, path.as_str()) {
+        match File::open(&self.rt, path.as_str()) {
             Ok(file) => Some(FileDisk::over(SystemFile::over(file))),
             Err(_) => None,
         }
