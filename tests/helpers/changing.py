@@ -106,7 +106,7 @@ def fetches(program, work):
     waiting = []
     for head in asked:
         one = station.connect()
-        one.setsockopt(socket.SOL_SOCKET, socket.SO_RCVBUF, 4096)
+        one.setsockopt(socket.SOL_SOCKET, socket.SO_RCVBUF, 65536)
         one.sendall(head)
         waiting.append((head, one, one.recv(100)))
     for seed in (42, 43):

@@ -14,8 +14,8 @@ check "a folder that is held: $(cat "$work/err")" grep -q '^fault locked' "$work
 exec 9>&-
 
 # Standard input is recorded into files by their bytes, the last of which is sealed at the end.
-python3 "$here/filing.py" stream 7 60 >"$work/7"
-timeout 60 "$program" station "$work/input/" 127.0.0.1:0 --most-bytes 500 --seal <"$work/7" >"$work/out" 2>"$work/err"
+python3 "$here/filing.py" stream 1 60 >"$work/stream"
+timeout 60 "$program" station "$work/input/" 127.0.0.1:0 --most-bytes 500 --seal <"$work/stream" >"$work/out" 2>"$work/err"
 status=$?
 check "standard input: status $status" [ "$status" -eq 0 ]
 check "standard input: several files" [ "$(ls "$work/input" | grep -c 'ogg$')" -gt 3 ]
