@@ -1,5 +1,7 @@
 //! A folder over a raw one whose list comes in any order, and whose calls fail in turn.
-ghost use Rattle.std.specs.Prelude.{[]};
+ghost use Rattle.std.specs.Prelude.{◌≡◌, [], IfOk};
+ghost use Rattle.disk_model.specs.Image.{settled};
+ghost use Rattle.disk_model.specs.MemDisk.{state_of};
 ghost use Rattle.archive_folder.specs.Names.{Nowhere};
 
 use crate::spelling::named;
@@ -27,7 +29,9 @@ impl FailingFolder {
         }
     }
 
-    fn empty_file(&mut self) -> Result<MemDisk, FaultKind> {
+    fn empty_file(&mut self) -> Result<MemDisk, FaultKind>
+        ensures { IfOk result (λ disk. state_of disk ≡ settled []) }
+    {
         match MemDisk::of(self.alloc, &[]) {
             Ok(disk) => Ok(disk),
             Err(_) => Err(FaultKind::Memory),
