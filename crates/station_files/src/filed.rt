@@ -96,6 +96,20 @@ fn join_of<D: Disk + Drop>(stations: &Stations<D>) -> Option<Join> {
     })
 }
 
+/// Begins the link that is open in the source again, under serials that are none of these. Whether something of the source
+/// is lost is noted.
+fn begin_link<D: Disk + Drop>(
+    stations: &mut Stations<D>,
+    serials: &[u32],
+    is_lost: bool,
+) -> Result<Answered, ArchiveFault> {
+    match stations.newest_mut().begin_again(serials, is_lost) {
+        Ok(answered) => Ok(answered),
+        Err(RecordFault::Memory) => Err(ArchiveFault::Memory),
+        Err(fault) => Err(ArchiveFault::Input(fault)),
+    }
+}
+
 impl<D: Disk + Drop, F: Folder<File = D> + Drop> Filed<F> {
     /// Opens a folder. Its newest file is recorded into, if it can be gone on with; otherwise the next one is begun at once.
     /// It returns a hub over the file. What is to be thrown away is.
@@ -192,8 +206,10 @@ impl<D: Disk + Drop, F: Folder<File = D> + Drop> Filed<F> {
         }
         let end = stations.newest().hub().end();
         let Ok(reading) = Recorder::to_read(self.alloc, disk, end) else {
+            // The link has ended, so it begins again in this file.
             self.put_off = clocks.steady.saturating_add(PUT_OFF);
-            return Ok(None);
+            let answered = begin_link(stations, serials.as_slice(), false)?;
+            return Ok(Some(answered));
         };
         let is_cut = match stations.newest_mut().read_by(reading) {
             Ok(recorder) => self.rotation.end(self.name, recorder, beside),
@@ -229,11 +245,7 @@ impl<D: Disk + Drop, F: Folder<File = D> + Drop> Filed<F> {
         self.name = name;
         let hub = hub_over(self.alloc, recorder, self.most)?;
         stations.change(live_over(self.alloc, hub)?);
-        let answered = match stations.newest_mut().begin_again(serials, is_lost) {
-            Ok(answered) => answered,
-            Err(RecordFault::Memory) => return Err(ArchiveFault::Memory),
-            Err(fault) => return Err(ArchiveFault::Input(fault)),
-        };
+        let answered = begin_link(stations, serials, is_lost)?;
         self.rotation.throw_away(day, beside);
         Ok(answered)
     }
