@@ -1,5 +1,5 @@
 -- A source that leaves the air, and of which something is lost.
-use Rattle.std.proofs.Common.{◌≡◌, ◌⊎◌, ◌||◌, ℕ, Bool, true, Option, Some, None, if◌then◌else◌, sym, ◌∙◌, ap, subst, inl, inr}
+use Rattle.std.proofs.Common.{◌≡◌, ◌⊎◌, ◌||◌, ℕ, Bool, true, Option, Some, None, Result, Ok, if◌then◌else◌, sym, ◌∙◌, ap, subst, inl, inr}
 use Rattle.std.proofs.lemmas.Bool.{cases_Bool}
 use Rattle.gate_file.specs.declared.fault.OpenFault.{OpenFault}
 use Rattle.import_record.specs.declared.answering.Answered.{Answered}
@@ -54,6 +54,12 @@ given_up_lost fault refused why e = cc
 
 pub same_answered : (one other : Answered) → Reopened one ≡ Reopened other → one ≡ other
 same_answered one other e = cc
+
+abbrev succeeded : Answered → Result Answered RecordFault
+succeeded answered = Ok answered
+
+pub answered_so : (one other : Answered) → succeeded one ≡ succeeded other → one ≡ other
+answered_so one other e = cc
 
 -- what resuming comes to
 abbrev pub IsResumed : Done → Type 0

@@ -1,5 +1,6 @@
 //! A station goes over to another file: who reads the one before leaves for a station that serves it to its end.
-ghost use Rattle.std.specs.Prelude.{◌≡◌, ◌≢◌, ◌↔◌, ◌⊎◌, [], ℕ, None, Some, false, true, IfErr, IfOk, OnErr, length};
+ghost use Rattle.std.specs.List.{filter};
+ghost use Rattle.std.specs.Prelude.{◌≡◌, ◌≢◌, ◌↔◌, ◌<◌, ◌⊎◌, ◌||◌, [], ℕ, None, Ok, Some, false, true, IfErr, IfOk, IfSome, IsSome, OnErr, length};
 ghost use Rattle.slab.specs.Slab.{get};
 ghost use Rattle.gate_file.specs.Commit.{CommitsTo};
 ghost use Rattle.gate_file.specs.Gate.{EachImage};
@@ -12,7 +13,11 @@ ghost use Rattle.serve_clients.specs.Client.{ClientState};
 ghost use Rattle.serve_clients.specs.Clients.{HasTurn, OthersStay};
 ghost use Rattle.serve_clients.specs.declared.clients.Clients.{Clients as ClientsOf};
 ghost use Rattle.serve_clients.specs.Line.{new_line};
-ghost use Rattle.station.specs.Changing.{HearsAnew, ReadsFile, anew, arrived, come};
+ghost use Rattle.import_record.specs.Running.{nothing};
+ghost use Rattle.import_record.specs.declared.answering.Answered.{Answered as AnsweredOf};
+ghost use Rattle.serve_hub.specs.Running.{IsIn, Progress};
+ghost use Rattle.station.specs.Spare.{is_another, is_spare};
+ghost use Rattle.station.specs.Changing.{BeginsAgain, HearsAnew, ReadsFile, anew, arrived, come};
 ghost use Rattle.station_hub.specs.Giving.{has_got_all};
 ghost use Rattle.serve_live.specs.Boundaries.{place_to_join};
 ghost use Rattle.station_hub.specs.Live.{RecordsLive};
@@ -30,6 +35,7 @@ use serve_clients::{Client, Clients, Line, Stage};
 use serve_live::{JoinPlace, Listener};
 use slab::Slab;
 use station_hub::{LiveHub, Waking};
+use station_sources::OnAir;
 use std::alloc::Global;
 use std::io;
 
@@ -62,6 +68,25 @@ fn anew(waking: Waking) -> Waking
         heard: 0,
         unheard: true,
         ..waking
+    }
+}
+
+/// Something of the source is lost, if so.
+fn note_loss(air: &mut OnAir, is_lost: bool)
+    ensures { air.new ≡ record air.old { lost = is_lost || air.old.lost } }
+{
+    if is_lost {
+        air.lose();
+    }
+}
+
+/// Whether a connection hears what is recorded.
+fn hears(stage: Stage) -> bool
+    ensures { (result ≡ true) ↔ (stage ≡ Stage.Hearing) }
+{
+    match stage {
+        Stage::Hearing => true,
+        _ => false,
     }
 }
 
@@ -98,7 +123,9 @@ impl<D: Disk + Drop> Station<D> {
     }
 
     /// Every connection has a key that is less.
-    pub fn keys(&self) -> usize {
+    pub fn keys(&self) -> usize
+        ensures { (key : ℕ) → get self.now.clients.slots key ≢ None → key < result }
+    {
         self.clients.slots.capacity()
     }
 
@@ -161,17 +188,19 @@ impl<D: Disk + Drop> Station<D> {
     /// these, and that is kept with what waits. It returns what was answered. If something of the source is lost, that is
     /// noted. After a fault not all of the link may be begun.
     pub fn begin_again(&mut self, serials: &[u32], is_lost: bool) -> Result<Answered, RecordFault>
+        ensures begins { (air : OnAirOf) (answered : AnsweredOf) (before : Progress D) → self.old.air ≡ Some air
+            → IsIn D.Disk before self.old.live.hub → result ≡ Ok answered
+            → BeginsAgain D.Disk serials.now is_lost answered air self.new.air self.new.live before }
         ensures clients { self.new.clients ≡ self.old.clients }
         ensures records { RecordsLive D.Disk self.old.live self.new.live }
-        ensures none { self.old.air ≡ None → self.new.air ≡ None }
+        ensures none { self.old.air ≡ None → (result ≡ Ok nothing) × (self.new ≡ self.old) }
         ensures faults { IfErr result (λ fault. (fault ≡ RecordFault.Memory) ⊎ (fault ≡ RecordFault.Write)) }
+        ensures rest { self.new ≡ record self.old { live = self.new.live; air = self.new.air } }
     {
         let Some(air) = &mut self.air else {
             return Ok(Answered::nothing());
         };
-        if is_lost {
-            air.lose();
-        }
+        note_loss(air, is_lost);
         let ran = match air.resume(&[], serials) {
             Ok(commands) => run_all(&mut self.live, commands.as_slice(), &mut io::sink()),
             Err(_) => return Err(RecordFault::Memory),
@@ -183,16 +212,30 @@ impl<D: Disk + Drop> Station<D> {
         }
     }
 
-    /// Whether this connection reads the file: it has a session, or hears what is recorded.
+    /// Whether this connection reads the file: it has a session there, whatever it waits for, or hears what is recorded.
     pub fn reads_file(&self, key: usize) -> bool
         ensures { (result ≡ true) ↔ ReadsFile (get self.now.clients.slots key) }
     {
         match self.clients.slots.get(key) {
-            Some(client) => match client.stage {
-                Stage::Reading | Stage::Sending | Stage::Hearing => true,
-                _ => false,
-            },
+            Some(client) => client.session.is_some() || hears(client.stage),
             None => false,
+        }
+    }
+
+    /// What has come of the head of this connection, if it hasn't said yet what it asks for. None if it has a spare place.
+    pub fn asking(&self, key: usize) -> Option<&[u8]>
+        ensures asks { IfSome result (λ head. (client : ClientState) × (get self.now.clients.slots key ≡ Some client)
+            × (client.stage ≡ Stage.Asking) × (head.now ≡ client.head) × (is_spare key self.now.spare.items ≡ false)) }
+        ensures each { (client : ClientState) → get self.now.clients.slots key ≡ Some client → client.stage ≡ Stage.Asking
+            → is_spare key self.now.spare.items ≡ false → IsSome result }
+    {
+        if self.is_spare(key) {
+            return None;
+        }
+        let client = self.clients.slots.get(key)?;
+        match client.stage {
+            Stage::Asking => Some(client.head.as_slice()),
+            _ => None,
         }
     }
 
@@ -213,8 +256,11 @@ impl<D: Disk + Drop> Station<D> {
         ensures left { result ≡ get self.old.clients.slots key }
         ensures gone { get self.new.clients.slots key ≡ None }
         ensures others { OthersStay key self.old.clients self.new.clients }
+        ensures none { get self.old.clients.slots key ≡ None → self.new ≡ self.old }
+        ensures spare { result ≢ None → self.new.spare.items ≡ filter (is_another key) self.old.spare.items }
         ensures live { self.new.live ≡ self.old.live }
         ensures air { self.new.air ≡ self.old.air }
+        ensures rest { self.new ≡ record self.old { clients = self.new.clients; spare = self.new.spare } }
     {
         let client = self.clients.slots.try_remove(key)?;
         leave(&mut self.spare, key);
@@ -230,6 +276,7 @@ impl<D: Disk + Drop> Station<D> {
         ensures err { OnErr result ((key : ℕ) → get self.new.clients.slots key ≡ get self.old.clients.slots key) }
         ensures live { self.new.live ≡ self.old.live }
         ensures air { self.new.air ≡ self.old.air }
+        ensures rest { self.new ≡ record self.old { clients = self.new.clients } }
     {
         let mut client = client;
         arrive(&mut client);
@@ -246,6 +293,7 @@ impl<D: Disk + Drop> Station<D> {
         ensures others { OthersStay key self.old.clients self.new.clients }
         ensures live { self.new.live ≡ self.old.live }
         ensures air { self.new.air ≡ self.old.air }
+        ensures rest { self.new ≡ record self.old { clients = self.new.clients } }
     {
         if let Some(client) = self.clients.slots.get_mut(key) {
             hear_by(client, Listener::wait(self.alloc, 0));

@@ -27,6 +27,13 @@ impl<D: Disk + Drop> Station<D> {
         self.spare.iter().any(|other| key == *other)
     }
 
+    /// There may be so many connections from now on. Those that are there stay.
+    pub fn allow(&mut self, most: usize)
+        ensures { self.new ≡ record self.old { options = record self.old.options { most = most } } }
+    {
+        self.options.most = most;
+    }
+
     /// A connection was made, and gets a spare place.
     pub(crate) fn take_spare(&mut self, now: u64) -> Result<usize, Unaccepted>
         ensures none { IfOk result (λ key. get self.old.clients.slots key ≡ None) }

@@ -178,7 +178,9 @@ impl<D: Disk + Drop> Station<D> {
     }
 
     /// How many connections there are.
-    pub fn connections(&self) -> usize {
+    pub fn connections(&self) -> usize
+        ensures { result ≡ slab_len self.now.clients.slots }
+    {
         self.clients.slots.len()
     }
 

@@ -85,6 +85,13 @@ impl<D: Disk + Drop> Station<D> {
         }
     }
 
+    /// So many bytes were written to connections that had left for another station, or for a file.
+    pub fn sent_beside(&mut self, count: u64)
+        ensures { self.new ≡ record self.old { counts = record self.old.counts { sent = counted self.old.counts.sent count } } }
+    {
+        self.counts.sent = counted(self.counts.sent, count);
+    }
+
     /// The last step that has committed more took so many microseconds.
     pub fn spent(&mut self, microseconds: u64)
         ensures counts { self.new.counts ≡ record self.old.counts { commit_microseconds = counted self.old.counts.commit_microseconds microseconds } }
