@@ -1,4 +1,6 @@
 //! What every program does: it takes its words, does what they ask for, or shows a text in place of that.
+ghost use Rattle.std.specs.Prelude.{◌≡◌, ◌≤◌, IfSome};
+ghost use Rattle.std.specs.Process.{exit_status};
 
 use crate::action::Action;
 use crate::asking::{action_of, elsewhere, not_text};
@@ -10,13 +12,16 @@ use std::{env, io};
 
 /// A program, which answers some of the words.
 pub trait Program {
-    /// Does what is asked for, and returns the status; nothing, if another program answers that.
-    fn run(&self, rt: &HostRuntime, action: Action<'_>) -> Option<ExitCode>;
+    /// Does what is asked for, and returns the status, 0 or 1; nothing, if another program answers that.
+    fn run(&self, rt: &HostRuntime, action: Action<'_>) -> Option<ExitCode>
+        ensures { IfSome result (λ status. exit_status status ≤ 1) };
 }
 
 /// Runs the program with the words of the command line. The status is 2 if they ask for nothing that it can do; then a
 /// text on standard error says what they could ask for.
-pub fn answer<P: Program>(rt: &HostRuntime, program: &P) -> ExitCode {
+pub fn answer<P: Program>(rt: &HostRuntime, program: &P) -> ExitCode
+    ensures { exit_status result ≤ 2 }
+{
     // Held to the end: see `folder`.
     let _streams = [folder(rt), folder(rt), folder(rt)];
     match words(rt) {
@@ -26,7 +31,9 @@ pub fn answer<P: Program>(rt: &HostRuntime, program: &P) -> ExitCode {
 }
 
 /// Does what these words ask for.
-fn answer_words<P: Program>(rt: &HostRuntime, program: &P, words: &[String]) -> ExitCode {
+fn answer_words<P: Program>(rt: &HostRuntime, program: &P, words: &[String]) -> ExitCode
+    ensures { exit_status result ≤ 2 }
+{
     let action = match action_of(rt, words) {
         Ok(action) => action,
         Err(error) => return show(rt, &error),
@@ -38,7 +45,9 @@ fn answer_words<P: Program>(rt: &HostRuntime, program: &P, words: &[String]) -> 
 }
 
 /// Another program answers these words.
-fn refuse(rt: &HostRuntime) -> ExitCode {
+fn refuse(rt: &HostRuntime) -> ExitCode
+    ensures { exit_status result ≡ 2 }
+{
     match elsewhere(rt.alloc()) {
         Ok(error) => show(rt, &error),
         Err(_) => ExitCode::from(2),
@@ -62,7 +71,9 @@ fn words(rt: &HostRuntime) -> Result<Vec<String>, Error> {
 }
 
 /// Shows a text in place of the work. The status is 2.
-fn show(rt: &HostRuntime, error: &Error) -> ExitCode {
+fn show(rt: &HostRuntime, error: &Error) -> ExitCode
+    ensures { exit_status result ≡ 2 }
+{
     let _ = rt.eprint(error);
     ExitCode::from(2)
 }

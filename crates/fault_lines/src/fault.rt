@@ -1,6 +1,7 @@
 //! The faults, and how a line is written.
-ghost use Rattle.std.specs.Prelude.{◌≡◌, ◌≤◌, ◌+◌, ◌++◌, OnOk, OnErr, codes, decimal, length};
+ghost use Rattle.std.specs.Prelude.{◌≡◌, ◌≤◌, ◌+◌, ◌++◌, IfOk, IfErr, OnOk, OnErr, codes, decimal, length};
 ghost use Rattle.std.specs.Io.KnownBytes.{Appends};
+ghost use Rattle.std.specs.Process.{exit_status};
 ghost use Rattle.ogg_page.specs.Output.{WritesPart};
 ghost use Rattle.feed_replies.specs.Reply.{line_end};
 ghost use Rattle.fault_lines.specs.Fault.{IsOfRun, coded, fault_line, index_rest, make_rest, numbered, open_rest, place};
@@ -120,7 +121,11 @@ pub fn write_fault<W: Write>(fault: &Fault, writer: &mut W) -> Result<(), WriteF
 }
 
 /// The status of a program that has ended so. A fault's line goes to standard error.
-pub fn status_of(rt: &HostRuntime, ended: Result<(), Fault>) -> ExitCode {
+pub fn status_of(rt: &HostRuntime, ended: Result<(), Fault>) -> ExitCode
+    ensures done { IfOk ended (λ done. exit_status result ≡ 0) }
+    ensures fault { IfErr ended (λ fault. exit_status result ≡ 1) }
+    ensures within { exit_status result ≤ 1 }
+{
     match ended {
         Ok(()) => ExitCode::SUCCESS,
         Err(fault) => {

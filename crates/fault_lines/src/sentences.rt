@@ -1,4 +1,6 @@
 //! Faults told to people: the line of a fault goes on with what it is about, and why.
+ghost use Rattle.std.specs.Prelude.{◌≡◌, ◌≤◌, IfOk, IfErr};
+ghost use Rattle.std.specs.Process.{exit_status};
 
 use crate::fault::{Fault, line_of, status_of};
 use gate_file::OpenFault;
@@ -29,7 +31,11 @@ impl<'a> Place<'a> {
 
 /// The status of a program that has ended so. A fault's line goes to standard error, and if it is about this place, or
 /// about what comes on standard input, it goes on after a colon with a sentence.
-pub fn status_about(rt: &HostRuntime, ended: Result<(), Fault>, place: Place<'_>) -> ExitCode {
+pub fn status_about(rt: &HostRuntime, ended: Result<(), Fault>, place: Place<'_>) -> ExitCode
+    ensures done { IfOk ended (λ done. exit_status result ≡ 0) }
+    ensures fault { IfErr ended (λ fault. exit_status result ≡ 1) }
+    ensures within { exit_status result ≤ 1 }
+{
     let Err(fault) = ended else {
         return ExitCode::SUCCESS;
     };
@@ -40,7 +46,9 @@ pub fn status_about(rt: &HostRuntime, ended: Result<(), Fault>, place: Place<'_>
 }
 
 /// The status after a fault of this, for that reason, which its line goes on with.
-pub fn told_about(rt: &HostRuntime, fault: Fault, about: &str, why: &str) -> ExitCode {
+pub fn told_about(rt: &HostRuntime, fault: Fault, about: &str, why: &str) -> ExitCode
+    ensures { exit_status result ≡ 1 }
+{
     match format!(in rt.alloc(); "{about}: {why}") {
         Ok(sentence) => told(rt, fault, sentence.as_str()),
         Err(AllocError) => status_of(rt, Err(fault)),
@@ -48,7 +56,9 @@ pub fn told_about(rt: &HostRuntime, fault: Fault, about: &str, why: &str) -> Exi
 }
 
 /// The status after a fault whose line goes on with this sentence.
-fn told(rt: &HostRuntime, fault: Fault, sentence: &str) -> ExitCode {
+fn told(rt: &HostRuntime, fault: Fault, sentence: &str) -> ExitCode
+    ensures { exit_status result ≡ 1 }
+{
     match line_with(rt, fault, sentence) {
         Ok(line) => {
             let _ = write_whole(&mut rt.stderr(), line.as_slice());
