@@ -1,4 +1,9 @@
 //! Packets of a file, or of the files of a folder, as lines.
+ghost use Rattle.std.specs.Prelude.{◌≡◌, ◌+◌, ◌<◌, ◌≤◌, ◌||◌, ◌&&◌, IfSome, None, Some, Ok, Err, true, false, nat_le, nat_lt};
+ghost use Rattle.link_index.specs.Adding.{fault_at};
+ghost use Rattle.link_chain.specs.declared.chain_fault.ChainFault.{ChainFault as ChainFaultOf};
+ghost use Rattle.gate_file.specs.declared.fault.OpenFault.{OpenFault as OpenFaultOf};
+ghost use Rattle.packet_actions.specs.Asked.{is_asked};
 
 use crate::paging::PageLines;
 use archive_cut::{Recorded, is_before, stood_at, time_of};
@@ -184,7 +189,11 @@ fn prefix_of(rt: &HostRuntime, file: &str) -> Result<Prefix<FileDisk>, Fault> {
     }
 }
 
-fn fault_of(fault: ReadingFault) -> Fault {
+fn fault_of(fault: ReadingFault) -> Fault
+    ensures file { fault ≡ ReadingFault.File → result ≡ Fault.File }
+    ensures memory { fault ≡ ReadingFault.Memory → result ≡ Fault.Memory }
+    ensures open { (opening : OpenFaultOf) → fault ≡ ReadingFault.Open opening → result ≡ Fault.Open opening }
+{
     match fault {
         ReadingFault::File => Fault::File,
         ReadingFault::Memory => Fault::Memory,
@@ -193,7 +202,11 @@ fn fault_of(fault: ReadingFault) -> Fault {
 }
 
 /// The fault of a page that begins at this offset.
-fn page_fault(offset: u64, fault: GatherFault) -> Fault {
+fn page_fault(offset: u64, fault: GatherFault) -> Fault
+    ensures chain { (chain : ChainFaultOf) → fault ≡ GatherFault.Chain chain → result ≡ Fault.Index (fault_at offset chain) }
+    ensures long { fault ≡ GatherFault.PacketTooLong → result ≡ Fault.Make (MakingFault.PacketTooLong offset) }
+    ensures memory { fault ≡ GatherFault.Memory → result ≡ Fault.Memory }
+{
     match fault {
         GatherFault::Chain(fault) => Fault::Index(fault_at(offset, fault)),
         GatherFault::PacketTooLong => Fault::Make(MakingFault::PacketTooLong(offset)),
@@ -219,7 +232,11 @@ fn now(rt: &HostRuntime) -> u64 {
 
 impl Writing<'_> {
     /// What the run has come to, if it met no fault.
-    fn ended(&self) -> Result<(), Fault> {
+    fn ended(&self) -> Result<(), Fault>
+        ensures damaged { self.now.is_damaged ≡ true → result ≡ Err Fault.Damaged }
+        ensures none { self.now.is_damaged ≡ false → self.now.pages.choosing.has_found ≡ false → result ≡ Err Fault.NoStream }
+        ensures done { self.now.is_damaged ≡ false → self.now.pages.choosing.has_found ≡ true → result ≡ Ok tt }
+    {
         if self.is_damaged {
             return Err(Fault::Damaged);
         }
@@ -296,7 +313,9 @@ impl Writing<'_> {
     }
 
     /// Whether something of a file may be asked for, by when it was begun and when the next one was.
-    fn is_asked(&self, begin: u64, later: u64) -> bool {
+    fn is_asked(&self, begin: u64, later: u64) -> bool
+        ensures { result ≡ is_asked self.now.options.since self.now.options.until begin later }
+    {
         let all_before = match self.options.since {
             Some(since) => is_before(later, since),
             None => false,
