@@ -21,7 +21,7 @@ pub use beside::TailFiles;
 pub use mends::MendLines;
 pub use recorders::{
     is_foreign, keeping_recorder_on, lock_file, open_own_recorder, open_recorder, own_recorder_on,
-    reopen, seal_file, seal_if,
+    reopen, seal_after, seal_file, seal_if,
 };
 pub use tails::{Tail, find_tail};
 pub use telling::Told;

@@ -1,5 +1,5 @@
 //! Files that commands are recorded into: they are opened, and sealed.
-ghost use Rattle.std.specs.Prelude.{◌≡◌, ◌↔◌, ◌⊎◌, ◌<◌, IfOk, IfErr, IsTrue, OnErr, Ok, Err, true, false, codes, drop};
+ghost use Rattle.std.specs.Prelude.{◌≡◌, ◌↔◌, ◌⊎◌, ◌<◌, IfOk, IfErr, IfSome, IsTrue, OnErr, Ok, Err, None, Some, true, false, codes, drop};
 ghost use Rattle.disk_model.specs.Fault.{HasCause};
 ghost use Rattle.disk_model.specs.Image.{IsSettled};
 ghost use Rattle.file_recorder.specs.Recorder.{committed};
@@ -191,5 +191,27 @@ pub fn seal_if<D: Disk + Drop>(recorder: Recorder<D>, seal: bool) -> Result<D, F
         seal_file(recorder)
     } else {
         Ok(recorder.give_back())
+    }
+}
+
+/// What a run has come to, and the disk that was recorded into. If no fault was met, the file is sealed, if that is asked
+/// for; the disk is let go if that fails. After a fault that was met the disk is returned as it stands.
+pub fn seal_after<D: Disk + Drop>(
+    recorder: Recorder<D>,
+    met: Result<(), Fault>,
+    seal: bool,
+) -> (Result<(), Fault>, Option<D>)
+    ensures left { IfErr met (λ fault. result ≡ (Err fault, Some recorder.file.disk)) }
+    ensures unasked { seal ≡ false → result ≡ (met, Some recorder.file.disk) }
+    ensures failed { met ≡ Ok tt → seal ≡ true → recorder.file.failed ≡ true → result ≡ (Err Fault.Failed, None) }
+    ensures asked { met ≡ Ok tt → seal ≡ true → (result.0 ≡ Ok tt) → IfSome result.1 (λ disk. D.is_honest recorder.file.disk
+        → IsSettled (D.state disk) × ((D.state disk).contents ≡ committed D.state recorder)) }
+{
+    if met.is_err() {
+        return (met, Some(recorder.give_back()));
+    }
+    match seal_if(recorder, seal) {
+        Ok(disk) => (Ok(()), Some(disk)),
+        Err(fault) => (Err(fault), None),
     }
 }

@@ -1,7 +1,7 @@
 //! What is told of a recording: mends and refusals as they come, how far it has come at a terminal, and what it came
 //! to.
-ghost use Rattle.std.specs.Prelude.{◌≡◌, ◌≢◌, ◌↔◌, ◌&&◌, ◌||◌, ◌<◌, ℕ, nat_lt, IsTrue, None, Some, true};
-ghost use Rattle.record_actions.specs.Telling.{HasCome, fault_of};
+ghost use Rattle.std.specs.Prelude.{◌≡◌, ◌≢◌, ◌↔◌, ◌&&◌, ◌||◌, ◌<◌, ℕ, nat_lt, IsTrue, None, Some, true, false};
+ghost use Rattle.record_actions.specs.Telling.{HasCome, fault_of, totals_with};
 ghost use Rattle.ogg_command.specs.declared.refusal.Refusal.{Refusal as RefusalOf};
 
 use crate::mends::MendLines;
@@ -119,7 +119,9 @@ impl<'a> Told<'a> {
     }
 
     /// A source was given up: what it sent later is lost.
-    pub fn given_up(&mut self, fault: RecordFault) {
+    pub fn given_up(&mut self, fault: RecordFault)
+        ensures noted { self.new.is_refused ≡ true }
+    {
         self.is_refused = true;
         self.erase();
         let _ = write_fault(&Fault::Archive(fault), &mut self.rt.stderr());
@@ -178,7 +180,13 @@ impl<'a> Told<'a> {
     }
 
     /// Unless commands wait, all that was taken is on the disk.
-    pub fn settle(&mut self, held: u64, failed: bool, end: u64) {
+    pub fn settle(&mut self, held: u64, failed: bool, end: u64)
+        ensures waits { 0 < held → self.new ≡ self.old }
+        ensures failed { failed ≡ true → self.new ≡ self.old }
+        ensures kept { held ≡ 0 → failed ≡ false
+            → (self.new.totals ≡ totals_with self.old.totals self.old.links self.old.packets end)
+            × (self.new.links ≡ 0) × (self.new.packets ≡ 0) }
+    {
         if held == 0 && !failed {
             self.totals.links = self.totals.links.saturating_add(self.links);
             self.totals.packets = self.totals.packets.saturating_add(self.packets);
@@ -263,7 +271,9 @@ impl<'a> Told<'a> {
     }
 
     /// Tells whoever sits at the terminal how far the recording has come, about once a second.
-    fn show(&mut self) {
+    fn show(&mut self)
+        ensures { self.new ≡ record self.old { shown = self.new.shown } }
+    {
         let mut errors = self.rt.stderr();
         if self.shows_other || !errors.is_terminal() {
             return;
