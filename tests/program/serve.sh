@@ -115,6 +115,8 @@ check "a tail: $(wc -c <"$work/tail.ogg") bytes" [ "$(wc -c <"$work/tail.ogg")" 
 run serve "$work/none.ogg" 127.0.0.1:0 1
 came "no such file" 1 '' 'fault file\n'
 check "no such file: none is made" [ ! -e "$work/none.ogg" ]
+run serve "$work/none.ogg" nowhere 1
+came "no such file, before the address is looked at" 1 '' 'fault file\n'
 run serve "$work" 127.0.0.1:0 1
 came "a folder" 1 '' 'fault file\n'
 cp "$work/two.ogg" "$work/bad.ogg"
@@ -172,6 +174,8 @@ came "a feed that is cut" 1 '' 'fault feed 1 Truncated\n'
 check "a feed that is cut: not sealed" [ "$(wc -c <"$work/live.ogg")" -eq 65 ]
 run live "$work/live.ogg" 127.0.0.1:0 "$work/none" 1
 came "no feed" 1 '' 'fault file\n'
+run live "$work/live.ogg" nowhere "$work/none" 1
+came "no feed, before the address is looked at" 1 '' 'fault file\n'
 run live "$work/live.ogg" nowhere "$work" 1
 came "no address, before a feed is read" 1 '' 'fault net\n'
 run live "$work/none.ogg" nowhere "$work/none" 1
@@ -202,5 +206,18 @@ check "a full device: a disk fault" grep -q '^refused 21 Disk' "$work/full.out"
 check "a full device: no fault" [ ! -s "$work/full.err" ]
 run links "$work/full.ogg"
 check "a full device: a file of links" [ "$status" -eq 0 ]
+
+# If it can't be opened again, no further connection is waited for.
+cc -O2 -shared -fPIC -D_GNU_SOURCE -o "$work/failing.so" "$here/failing.c" || exit 1
+cp "$work/first" "$work/lost.ogg"
+records 'put([(1, 6, b"x")]), end(1)' >"$work/feed"
+port=$(asking port)
+LD_PRELOAD=$work/failing.so FAILING_CALL=5 FAILING_HOW=io FAILING_ON=1 \
+    timeout 20 "$program" live "$work/lost.ogg" "127.0.0.1:$port" "$work/feed" 100 >"$work/out" 2>"$work/err" &
+server=$!
+asking wait "$port"
+timeout 20 curl -s -o "$work/body" "http://127.0.0.1:$port/all"
+down
+came "a file that is lost" 1 'refused 21 Disk\n' 'fault open 1 Disk\n'
 
 finish

@@ -5,7 +5,7 @@ use disk_model::{Disk, FileDisk, FileMode};
 use fault_lines::Fault;
 use file_recorder::Recorder;
 use ogg_serve::Hub;
-use record_actions::{open_recorder, seal_file};
+use record_actions::{open_recorder, seal_after};
 use std::alloc::Global;
 
 /// A hub over a file, and whether the file had no tail when it was opened.
@@ -55,11 +55,8 @@ pub fn close<D: Disk + Drop>(opened: Opened<D>, served: Result<(), Fault>) -> Re
     ensures met { IfErr served (λ fault. result ≡ Err fault) }
     ensures left { opened.sealed ≡ false → result ≡ served }
 {
-    if opened.sealed {
-        close_hub(opened.hub, served)
-    } else {
-        served
-    }
+    let (closed, _) = disk_after(opened.hub, served, opened.sealed);
+    closed
 }
 
 /// Returns the fault that was met. If none was, the file of the hub is sealed, unless it was lost.
@@ -67,21 +64,24 @@ pub fn close_hub<D: Disk + Drop>(hub: Hub<D>, served: Result<(), Fault>) -> Resu
     ensures met { IfErr served (λ fault. result ≡ Err fault) }
     ensures lost { hub.file ≡ None → result ≡ served }
 {
-    match served {
-        Ok(()) => seal_hub(hub),
-        Err(fault) => Err(fault),
-    }
+    let (closed, _) = disk_after(hub, served, true);
+    closed
 }
 
-/// Seals the file of a hub, unless it was lost.
-fn seal_hub<D: Disk + Drop>(hub: Hub<D>) -> Result<(), Fault>
-    ensures lost { hub.file ≡ None → result ≡ Ok tt }
+/// What the hub has come to, and the disk of its file, unless that was lost: sealed, if no fault was met and that is asked
+/// for, and otherwise as it stands.
+fn disk_after<D: Disk + Drop>(
+    hub: Hub<D>,
+    served: Result<(), Fault>,
+    seal: bool,
+) -> (Result<(), Fault>, Option<D>)
+    ensures met { IfErr served (λ fault. result.0 ≡ Err fault) }
+    ensures lost { hub.file ≡ None → result ≡ (served, None) }
+    ensures left { IfErr served (λ fault. IfSome hub.file (λ recorder. result ≡ (Err fault, Some recorder.file.disk))) }
+    ensures unasked { seal ≡ false → result.0 ≡ served × IfSome hub.file (λ recorder. result.1 ≡ Some recorder.file.disk) }
 {
     match hub.into_recorder() {
-        Ok(recorder) => {
-            seal_file(recorder)?;
-            Ok(())
-        }
-        Err(_) => Ok(()),
+        Ok(recorder) => seal_after(recorder, served, seal),
+        Err(_) => (served, None),
     }
 }
