@@ -1,5 +1,7 @@
 //! The commands that read a feed from standard input.
-ghost use Rattle.std.specs.Prelude.{◌≡◌, IfOk};
+ghost use Rattle.std.specs.Prelude.{◌≡◌, ◌||◌, IfOk, IfErr, Ok, Err, true, false};
+ghost use Rattle.fault_lines.specs.Fault.{fault_of_run};
+ghost use Rattle.fault_lines.specs.declared.fault.Fault.{Fault as FaultOf};
 
 use disk_model::{FileDisk, FileMode};
 use fault_lines::Fault;
@@ -12,7 +14,7 @@ use import_feed::{ChangeOptions, make_feed, make_mended_feed};
 use import_renumber::Renumbered;
 use ogg_page::write_whole;
 use ogg_recorder::record_feed_for;
-use record_actions::{MendLines, open_own_recorder, open_recorder, seal_if};
+use record_actions::{MendLines, open_own_recorder, open_recorder, seal_after};
 use std::io::{self, BufReader, BufWriter, IsTerminal, Stdin, Write};
 use text_line::Line;
 
@@ -37,8 +39,7 @@ pub fn mux(rt: &HostRuntime, strict: bool) -> Result<(), Fault> {
     };
     let mut replies = reply_lines(rt, rt.stderr(), Together::Ahead, strict)?;
     let ran = mux_for::<Buffered, _, _, _>(rt.alloc(), &mut feed, &mut pages, &mut replies);
-    sum_up(rt, ended(ran, &replies)?);
-    outcome(&replies)
+    told(rt, ended(ran, &replies), false, outcome(&replies))
 }
 
 /// Checks the feed on standard input: writes to standard output the replies that `mux` would write, and makes no page.
@@ -47,8 +48,7 @@ pub fn check(rt: &HostRuntime, strict: bool) -> Result<(), Fault> {
     let mut feed = input(rt)?;
     let mut replies = reply_lines(rt, rt.stdout(), Together::Ahead, strict)?;
     let ran = check_feed_for::<Buffered, _, _>(rt.alloc(), &mut feed, &mut replies);
-    sum_up(rt, ended(ran, &replies)?);
-    outcome(&replies)
+    told(rt, ended(ran, &replies), false, outcome(&replies))
 }
 
 /// What is done to a file before and after a feed is recorded into it.
@@ -64,7 +64,9 @@ pub struct RecordEnds {
 
 impl RecordEnds {
     /// Whether it goes on with what an earlier run has left.
-    fn goes_on(self) -> bool {
+    fn goes_on(self) -> bool
+        ensures { result ≡ (self.end_open || self.renumber) }
+    {
         self.end_open || self.renumber
     }
 }
@@ -73,8 +75,8 @@ impl RecordEnds {
 /// standard output. `most` commands share a commit. If `strict` says so, the feed ends after the first refusal.
 ///
 /// It is `Locked`, `File`, `Memory` or `Open` if the file can't be opened, and `Foreign` if it was to go on with a file
-/// that holds something else than a recording: nothing of the feed is read then. It is `Feed`, `TooMany`, `Write`, `Memory` or `Refused` as for `mux`, `Failed` if the disk has failed, and `Seal` if the
-/// file isn't cut. What was told as kept stays in the file.
+/// that holds something else than a recording: nothing of the feed is read then. It is `Feed`, `TooMany`, `Write`, `Memory`
+/// or `Refused` as for `mux`, `Failed` if the disk has failed, and `Seal` if the file isn't cut. What was told as kept stays in the file.
 pub fn record(
     rt: &HostRuntime,
     file: &str,
@@ -200,14 +202,15 @@ fn close_record(
     ended: Result<Tally, Fault>,
     outcome: Result<(), Fault>,
     seal: bool,
-) -> Result<(), Fault> {
-    match told(rt, ended, recorder.is_failed(), outcome) {
-        Ok(()) => {
-            seal_if(recorder, seal)?;
-            Ok(())
-        }
-        Err(fault) => Err(fault),
-    }
+) -> Result<(), Fault>
+    ensures ended { IfErr ended (λ fault. result ≡ Err fault) }
+    ensures failed { IfOk ended (λ tally. recorder.file.failed ≡ true → result ≡ Err Fault.Failed) }
+    ensures refused { (fault : FaultOf) → IfOk ended (λ tally. recorder.file.failed ≡ false → outcome ≡ Err fault
+        → result ≡ Err fault) }
+{
+    let told = told(rt, ended, recorder.is_failed(), outcome);
+    let (closed, _) = seal_after(recorder, told, seal);
+    closed
 }
 
 /// Tells what was recorded, and returns the first thing that was met.
@@ -216,7 +219,11 @@ fn told(
     ended: Result<Tally, Fault>,
     failed: bool,
     outcome: Result<(), Fault>,
-) -> Result<(), Fault> {
+) -> Result<(), Fault>
+    ensures ended { IfErr ended (λ fault. result ≡ Err fault) }
+    ensures failed { IfOk ended (λ tally. failed ≡ true → result ≡ Err Fault.Failed) }
+    ensures outcome { IfOk ended (λ tally. failed ≡ false → result ≡ outcome) }
+{
     sum_up(rt, ended?);
     if failed {
         return Err(Fault::Failed);
@@ -249,7 +256,11 @@ fn reply_lines<W: Write + Drop>(
 fn ended<W: Write + Drop>(
     ran: Result<Tally, RunFault>,
     replies: &ReplyLines<W>,
-) -> Result<Tally, Fault> {
+) -> Result<Tally, Fault>
+    ensures unwritten { replies.now.replies.failed ≡ true → result ≡ Err Fault.Write }
+    ensures ran { replies.now.replies.failed ≡ false → IfOk ran (λ tally. result ≡ Ok tally) }
+    ensures fault { replies.now.replies.failed ≡ false → IfErr ran (λ fault. result ≡ Err (fault_of_run fault)) }
+{
     if replies.replies().has_failed() {
         return Err(Fault::Write);
     }
@@ -257,7 +268,10 @@ fn ended<W: Write + Drop>(
 }
 
 /// Whether a refusal has ended the run.
-fn outcome<W: Write + Drop>(replies: &ReplyLines<W>) -> Result<(), Fault> {
+fn outcome<W: Write + Drop>(replies: &ReplyLines<W>) -> Result<(), Fault>
+    ensures refused { replies.now.refused ≡ true → result ≡ Err Fault.Refused }
+    ensures none { replies.now.refused ≡ false → result ≡ Ok tt }
+{
     if replies.has_refused() {
         return Err(Fault::Refused);
     }
