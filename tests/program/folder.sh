@@ -195,6 +195,19 @@ check "kept by age: status $status" [ "$status" -eq 0 ]
 archive "$work/2" "$work/aged/" --keep 600w
 check "kept by age: what is young stays" [ "$(numbers "$work/aged" | wc -w)" -ge 1 ]
 
+# Of two files with one number both stay, whatever else has to go, and so does the newest.
+archive "$work/1" "$work/twice/"
+first=$(newest "$work/twice")
+second=$work/twice/000001-20260101T000000Z.ogg
+cp "$first" "$second"
+archive "$work/2" "$work/twice" --most-bytes 500 --keep-bytes 1000
+check "two with one number: status $status" [ "$status" -eq 0 ]
+check "two with one number: it is told" grep -qx 'twice 1' "$work/err"
+check "two with one number: both stay: $(ls "$work/twice")" cmp "$first" "$second"
+check "two with one number: others go" grep -q '^file [2-9] removed ' "$work/err"
+check "two with one number: the newest stays" [ "$(newest "$work/twice")" = "$work/twice/$(sed -n 's/^file [0-9]* begins //p' "$work/err" | tail -n 1)" ]
+check "two with one number: only files that are gone are told as removed" [ -z "$(sed -n 's/^file [0-9]* removed //p' "$work/err" | while read -r name; do ls "$work/twice/$name" 2>/dev/null; done)" ]
+
 # A file that can't be thrown away is told once, and the next one goes.
 mkdir -p "$work/stays/000001-20260101T000000Z.ogg"
 archive "$work/1" "$work/stays/" --most-bytes 500 --keep-bytes 1500

@@ -1,4 +1,5 @@
 mod Numbers
 mod Known
 mod Left
+mod Retained
 mod Spelled

@@ -4,5 +4,6 @@ pub mod FilesState
 pub mod Filing
 pub mod Opening
 pub mod Resting
+pub mod Retention
 pub mod Rotating
 pub mod Spelling

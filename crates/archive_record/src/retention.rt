@@ -1,6 +1,8 @@
 //! Which files are thrown away, and that they are.
 
-ghost use Rattle.std.specs.Prelude.{◌≡◌, None, false};
+ghost use Rattle.std.specs.Prelude.{◌≡◌, ◌↔◌, ◌+◌, ◌<◌, ◌++◌, ◌∷◌, [], IsTrue, List, OnOk, length, None, false, true};
+ghost use Rattle.archive_folder.specs.declared.names.FileName.{FileName as FileNameOf};
+ghost use Rattle.archive_record.specs.Retention.{IsLeftOf, MayGo, how_many, throws};
 
 use crate::archive::ArchiveFault;
 use crate::beside::Beside;
@@ -12,7 +14,9 @@ use archive_names::{Going, Held, Keeping, next_for_room, next_to_go};
 use disk_model::{Disk, DiskFault};
 
 /// Whether a file may have to be thrown away at all.
-fn throws(keeping: Keeping) -> bool {
+fn throws(keeping: Keeping) -> bool
+    ensures { result ≡ throws keeping }
+{
     keeping.span.is_some() || keeping.bytes.is_some()
 }
 
@@ -28,17 +32,29 @@ fn last_of(next: Option<&FileName>, now: u64) -> u64 {
     }
 }
 
-/// Whether the file at this place has this number, if there is one.
-fn has_number(files: &[FileName], at: usize, number: u64) -> bool {
-    match files.get(at) {
-        Some(file) => file.number == number,
-        None => false,
+/// Whether exactly one of the files has this number.
+fn has_once(files: &[FileName], number: u64) -> bool
+    ensures { IsTrue result ↔ (how_many number files.now ≡ 1) }
+{
+    files.iter().filter(|file| file.number == number).count() == 1
+}
+
+/// Whether the newest of the files, which is the last, has this number.
+fn is_newest(files: &[FileName], number: u64) -> bool
+    ensures { (front : List FileNameOf) (newest : FileNameOf) → files.now ≡ front ++ newest ∷ []
+        → (result ≡ true) ↔ (newest.number ≡ number) }
+{
+    match files {
+        [.., newest] => newest.number == number,
+        [] => false,
     }
 }
 
-/// Whether a neighbour of the file at this place has its number too, in the order of the numbers. Both are left as they are.
-fn stands_twice(files: &[FileName], at: usize, number: u64) -> bool {
-    (at > 0 && has_number(files, at - 1, number)) || has_number(files, at.saturating_add(1), number)
+/// Whether the file with this number may be thrown away: no other has it, and it isn't the newest.
+fn may_go(files: &[FileName], number: u64) -> bool
+    ensures { result ≡ true → MayGo number files.now }
+{
+    has_once(files, number) && !is_newest(files, number)
 }
 
 /// What stands under a name. A file that can't be looked at is never thrown away.
@@ -63,6 +79,8 @@ fn look<F: Folder>(files: &mut Files<F>, name: FileName, last: u64) -> Held
 impl<D: Disk + Drop, F: Folder<File = D> + Drop> Rotation<F> {
     /// What stands under each name is noted, in the order of the files, if something may have to be thrown away.
     pub(crate) fn look_at_all(&mut self, now: u64) -> Result<(), ArchiveFault>
+        requires { self.old.held.items ≡ [] }
+        ensures paired { OnOk result (throws self.old.rules.keeping ≡ true → length self.new.held.items ≡ length self.new.files.files) }
         ensures out { self.new.files.out ≡ self.old.files.out }
         ensures rules { self.new.rules ≡ self.old.rules }
     {
@@ -74,9 +92,7 @@ impl<D: Disk + Drop, F: Folder<File = D> + Drop> Rotation<F> {
                 return Ok(());
             };
             let (name, last) = (*name, last_of(self.files.names().get(at + 1), now));
-            let is_twice = stands_twice(self.files.names(), at, name.number);
-            let mut held = look(&mut self.files, name, last);
-            held.is_kept = held.is_kept || is_twice;
+            let held = look(&mut self.files, name, last);
             match self.held.push(held) {
                 Ok(()) => {}
                 Err(_) => return Err(ArchiveFault::Memory),
@@ -86,7 +102,14 @@ impl<D: Disk + Drop, F: Folder<File = D> + Drop> Rotation<F> {
     }
 
     /// A file was begun: the one before it has ended.
-    pub(crate) fn look_at_newest(&mut self, now: u64) -> Result<(), ArchiveFault> {
+    pub(crate) fn look_at_newest(&mut self, now: u64) -> Result<(), ArchiveFault>
+        ensures paired { OnOk result (throws self.old.rules.keeping ≡ true
+            → length self.old.held.items + 1 ≡ length self.old.files.files
+            → length self.new.held.items ≡ length self.new.files.files) }
+        ensures files { self.new.files.files ≡ self.old.files.files }
+        ensures out { self.new.files.out ≡ self.old.files.out }
+        ensures rules { self.new.rules ≡ self.old.rules }
+    {
         if !throws(self.rules.keeping) {
             return Ok(());
         }
@@ -112,7 +135,12 @@ impl<D: Disk + Drop, F: Folder<File = D> + Drop> Rotation<F> {
 
     /// Throws away what is to be thrown away at this time in milliseconds since 1970, oldest first, and tells it. Call it
     /// when the folder was opened, and when what begins a new file is kept.
-    pub fn throw_away<B: Beside>(&mut self, now: u64, beside: &mut B) {
+    pub fn throw_away<B: Beside>(&mut self, now: u64, beside: &mut B)
+        ensures left { IsLeftOf self.old.files.files self.new.files.files }
+        ensures paired { length self.old.held.items ≡ length self.old.files.files
+            → length self.new.held.items ≡ length self.new.files.files }
+        ensures out { self.new.files.out ≡ self.old.files.out }
+    {
         let mut gone: usize = 0;
         for _ in 0..self.held.len() {
             let Some(going) = next_to_go(self.held.as_slice(), self.rules.keeping, now, gone) else {
@@ -133,6 +161,10 @@ impl<D: Disk + Drop, F: Folder<File = D> + Drop> Rotation<F> {
     /// whether one did. The file that is handed out is given back first.
     pub fn make_room<B: Beside>(&mut self, beside: &mut B) -> bool
         ensures bound { self.old.rules.keeping.bytes ≡ None → (result ≡ false) × (self.new ≡ self.old) × (beside.new ≡ beside.old) }
+        ensures left { IsLeftOf self.old.files.files self.new.files.files }
+        ensures paired { length self.old.held.items ≡ length self.old.files.files
+            → length self.new.held.items ≡ length self.new.files.files }
+        ensures out { self.new.files.out ≡ self.old.files.out }
     {
         if self.rules.keeping.bytes.is_none() || !self.files.is_full() {
             return false;
@@ -149,12 +181,23 @@ impl<D: Disk + Drop, F: Folder<File = D> + Drop> Rotation<F> {
         false
     }
 
-    /// Throws a file away, unless it has a mark by now, and returns whether it did.
-    fn throw_one<B: Beside>(&mut self, going: Going, beside: &mut B) -> bool {
+    /// Throws a file away, and returns whether it did: not if it has a mark by now, if another file has its number, or if
+    /// it is the newest.
+    fn throw_one<B: Beside>(&mut self, going: Going, beside: &mut B) -> bool
+        ensures left { IsLeftOf self.old.files.files self.new.files.files }
+        // What is noted of the files goes with them.
+        ensures paired { length self.old.held.items ≡ length self.old.files.files
+            → length self.new.held.items ≡ length self.new.files.files }
+        ensures out { self.new.files.out ≡ self.old.files.out }
+    {
         let Some(name) = self.files.names().get(going.at) else {
             return false;
         };
         let name = *name;
+        if !may_go(self.files.names(), name.number) {
+            self.keep(going.at);
+            return false;
+        }
         match self.files.facts(name) {
             Ok(facts) if facts.is_held => {
                 self.keep(going.at);
@@ -187,14 +230,20 @@ impl<D: Disk + Drop, F: Folder<File = D> + Drop> Rotation<F> {
     }
 
     /// The file at this place isn't to be thrown away.
-    fn keep(&mut self, at: usize) {
+    fn keep(&mut self, at: usize)
+        ensures files { self.new.files ≡ self.old.files }
+        ensures held { length self.new.held.items ≡ length self.old.held.items }
+    {
         if let Some(held) = self.held.get_mut(at) {
             held.is_kept = true;
         }
     }
 
     /// The file at this place is gone.
-    fn forget(&mut self, at: usize) {
+    fn forget(&mut self, at: usize)
+        ensures files { self.new.files ≡ self.old.files }
+        ensures held { at < length self.old.held.items → length self.new.held.items + 1 ≡ length self.old.held.items }
+    {
         if at < self.held.len() {
             self.held.remove(at);
         }

@@ -1,0 +1,14 @@
+use Rattle.std.proofs.Common.{◌∙◌}
+use Rattle.archive_record.proofs.Retained.{left_then}
+use Rattle.archive_record.proofs.rotation.Rotation.make_room.Goals as goal
+
+pub returns-then-throw_one-clause-left : goal.returns-then-throw_one-clause-left
+returns-then-throw_one-clause-left g c =
+    left_then c.args.self.now.files.files c.loop.self.files.files c.throw_one.new.self.files.files c.loop.invariant.left c.throw_one.ensures.left
+
+pub loop-preserved : goal.loop-preserved
+loop-preserved g c = record {
+  left = left_then c.args.self.now.files.files c.loop.self.files.files c.throw_one.new.self.files.files c.loop.invariant.left c.throw_one.ensures.left;
+  paired = λ same. c.throw_one.ensures.paired (c.loop.invariant.paired same);
+  out = c.throw_one.ensures.out ∙ c.loop.invariant.out;
+}
