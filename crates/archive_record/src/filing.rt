@@ -1,5 +1,5 @@
 //! How a file is begun, opened and ended.
-ghost use Rattle.std.specs.Prelude.{◌≡◌, ◌≢◌, ◌<◌, ◌++◌, [], ℕ, IfOk, IfErr, IfSome, OnOk, OnErr, None, Some, Ok, Err, true, false};
+ghost use Rattle.std.specs.Prelude.{◌≡◌, ◌≢◌, ◌<◌, ◌++◌, ◌∷◌, [], ℕ, IfOk, IfErr, IfSome, OnOk, OnErr, None, Some, Ok, Err, true, false};
 ghost use Rattle.disk_model.specs.Image.{settled};
 ghost use Rattle.archive_folder.specs.Names.{made, synced};
 ghost use Rattle.archive_folder.specs.declared.names.Fate.TheVariants.{Stays};
@@ -53,27 +53,31 @@ pub(crate) fn open_newest<D: Disk + Drop, F: Folder<File = D>>(
         [] => return Ok(None),
     };
     match open_last(alloc, files) {
-        Ok(recorder) => open_ended(files, name, recorder, most),
+        Ok((name, recorder)) => open_ended(files, name, recorder, most),
         Err(Damage::Open(OpenFault::Memory)) => Err(Left::Memory),
         Err(why) => Err(Left::Damaged(name, why)),
     }
 }
 
-/// A recorder on the newest file, in which nothing waits. If there is none, it is with the folder.
+/// A recorder on the newest file, in which nothing waits. If there is none, the file is with the folder.
 pub(crate) fn open_last<D: Disk + Drop, F: Folder<File = D>>(
     alloc: Global,
     files: &mut Files<F>,
-) -> Result<Recorder<D>, Damage>
-    ensures fresh { IfOk result (λ r. (r.file.failed ≡ false) × (r.held ≡ 0)) }
+) -> Result<(FileName, Recorder<D>), Damage>
+    ensures fresh { IfOk result (λ (file, r). (r.file.failed ≡ false) × (r.held ≡ 0)) }
+    ensures out { IfOk result (λ (file, r). files.new.out ≡ Some file.number) }
+    ensures newest { IfOk result (λ (file, r). (front : _) × (files.old.files ≡ front ++ file ∷ [])) }
+    ensures same { OnErr result (files.new.out ≡ files.old.out) }
+    ensures files { files.new.files ≡ files.old.files }
 {
     if !files.is_free() {
         return Err(Damage::Unreadable);
     }
     match files.open_newest() {
         Ok(Some((name, disk))) => match open_sound(alloc, disk) {
-            Ok(recorder) => Ok(recorder),
+            Ok(recorder) => Ok((name, recorder)),
             Err((why, disk)) => {
-                give_back(files, name, disk);
+                files.give_back(name.number, disk);
                 Err(why)
             }
         },

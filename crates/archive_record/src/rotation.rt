@@ -1,5 +1,5 @@
 //! The files of a folder, begun and ended in turn: the next one is begun when the newest is over, and old ones go.
-ghost use Rattle.std.specs.Prelude.{◌≡◌, [], ◌/◌, ◌⊎◌, ◌↔◌, ◌++◌, IfOk, IfErr, IfSome, IsTrue, OnOk, OnErr, None, Some, true, false};
+ghost use Rattle.std.specs.Prelude.{◌≡◌, ◌<◌, [], ◌/◌, ◌⊎◌, ◌↔◌, ◌++◌, IfOk, IfErr, IfSome, IsTrue, OnOk, OnErr, None, Some, true, false};
 ghost use Rattle.disk_model.specs.Image.{settled};
 ghost use Rattle.archive_names.specs.Plan.{IsOver};
 ghost use Rattle.file_recorder.specs.Recorder.{committed, staged};
@@ -219,16 +219,20 @@ impl<D: Disk + Drop, F: Folder<File = D> + Drop> Rotation<F> {
     }
 
     /// Ends a file: it is cut to its pages and given back, and nothing writes it again. If no room is left for that, the
-    /// oldest files go. Returns whether it is cut: not if its disk has failed, or a command waits.
-    pub fn end<B: Beside>(
-        &mut self,
-        name: FileName,
-        recorder: Recorder<D>,
-        beside: &mut B,
-    ) -> bool {
+    /// oldest files go. Returns whether it is cut: not if its disk has failed, or a command waits, which is lost then.
+    pub fn end<B: Beside>(&mut self, name: FileName, recorder: Recorder<D>, beside: &mut B) -> bool
+        ensures failed { recorder.file.failed ≡ true → result ≡ false }
+        ensures waits { 0 < recorder.held → result ≡ false }
+        ensures free { self.old.files.out ≡ Some name.number → self.new.files.out ≡ None }
+    {
         let end = recorder.end();
-        let is_out = self.files.is_out(name.number);
-        if (is_out && end_file(&mut self.files, name, recorder)) || self.end_again(name, beside) {
+        // What is lost isn't in the file that is opened again.
+        let is_whole = !recorder.is_failed() && recorder.held() == 0;
+        if !self.files.is_out(name.number) {
+            beside.damaged(name, Damage::Open(OpenFault::Disk));
+            return false;
+        }
+        if end_file(&mut self.files, name, recorder) || (is_whole && self.end_again(name, beside)) {
             beside.ended(name, end);
             true
         } else {
@@ -267,17 +271,21 @@ impl<D: Disk + Drop, F: Folder<File = D> + Drop> Rotation<F> {
         Ok(())
     }
 
-    /// Ends the file that wasn't ended, as long as that fails for want of room alone, and files are left that may go.
-    fn end_again<B: Beside>(&mut self, name: FileName, beside: &mut B) -> bool {
+    /// Ends the newest file, which was given back, as long as that fails for want of room alone, and files are left that
+    /// may go. Returns whether it is the one of this name, and is cut.
+    fn end_again<B: Beside>(&mut self, name: FileName, beside: &mut B) -> bool
+        requires { self.old.files.out ≡ None }
+        ensures { self.new.files.out ≡ None }
+    {
         for _ in 0..self.tries() {
             if !self.make_room(beside) {
                 return false;
             }
-            let Ok(recorder) = open_last(self.alloc, &mut self.files) else {
-                continue;
-            };
-            if self.files.is_out(name.number) && end_file(&mut self.files, name, recorder) {
-                return true;
+            match open_last(self.alloc, &mut self.files) {
+                Ok((newest, recorder)) => if end_file(&mut self.files, newest, recorder) {
+                    return newest.number == name.number;
+                },
+                Err(_) => {}
             }
         }
         false
@@ -299,7 +307,7 @@ impl<D: Disk + Drop, F: Folder<File = D> + Drop> Rotation<F> {
     {
         for _ in 0..self.tries() {
             match open_last(self.alloc, &mut self.files) {
-                Ok(recorder) => {
+                Ok((_, recorder)) => {
                     let mut recorder = recorder;
                     recorder.group(self.rules.most.clamp(1, 1024));
                     return Ok(recorder);
