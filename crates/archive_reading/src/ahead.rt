@@ -1,14 +1,14 @@
 //! A source that reads ahead.
-ghost use Rattle.std.specs.Prelude.{◌≡◌, ◌+◌, ◌-◌, ◌≤◌, [], length, take, drop, min, IfOk, IfSome};
+ghost use Rattle.std.specs.Prelude.{◌≡◌, ◌⊎◌, ◌+◌, ◌-◌, ◌^◌, ◌≤◌, [], length, take, drop, min, IfOk, IfSome, IsErr, OnOk};
 ghost use Rattle.ogg_page.specs.Source.{HasCause};
 ghost use Rattle.ogg_page.specs.Window.{KeepsSource};
-ghost use Rattle.archive_reading.specs.Ahead.{ahead_state};
+ghost use Rattle.archive_reading.specs.Ahead.{IsHeld, ahead_state};
 
 use ogg_page::{PageSource, SourceFault};
 use std::marker::Model;
 
 /// A source whose small reads, if they follow one another, are answered out of bytes that were read at once. It has the
-/// bytes of the source that it reads.
+/// bytes of the source that it reads. If so many can't be read, those that are asked for are read alone.
 #[derive(Drop)]
 pub struct Ahead<S: PageSource> {
     source: S,
@@ -70,6 +70,37 @@ fn fill_room<S: PageSource>(source: &mut S, at: u64, room: &mut [u8]) -> Result<
     }
 }
 
+/// Reads bytes from a place on into the buffer, and more into the room, if more can be read. Returns how many bytes the
+/// room has then, from the same place on.
+fn read_ahead<S: PageSource>(
+    source: &mut S,
+    at: u64,
+    buffer: &mut [u8],
+    room: &mut [u8],
+) -> Result<usize, SourceFault>
+    requires asked { at + length buffer.old ≤ S.size source.old }
+    requires less { length buffer.old ≤ length room.old }
+    ensures read { OnOk result (S.is_honest source.old → buffer.new ≡ take (length buffer.old) (drop at (S.bytes source.old))) }
+    ensures within { IfOk result (λ count. count ≤ length room.new) }
+    ensures held { IfOk result (λ count. S.is_honest source.old → IsHeld (S.bytes source.old) at (take count room.new)) }
+    // It fails only if what is asked can't be read alone either: the source has failed at both reads.
+    ensures alone { IsErr result → (S.failures source.old + 2 ≤ S.failures source.new) ⊎ (2 ^ 64 - 1 ≤ S.failures source.new) }
+    ensures cause { HasCause (S.failures source.old) (S.failures source.new) result }
+    ensures source { KeepsSource S.bytes S.is_honest S.size S.only_reads source.old source.new }
+{
+    match fill_room(source, at, room) {
+        Ok(count) => {
+            copy_from(room, 0, buffer);
+            Ok(count)
+        }
+        // A place that can't be read may lie after what is asked.
+        Err(_) => match source.read_at(at, buffer) {
+            Ok(()) => Ok(0),
+            Err(fault) => Err(fault),
+        },
+    }
+}
+
 impl<S: PageSource> Ahead<S> {
     /// Nothing is held yet. As many bytes are read at once as the room has.
     pub fn new(source: S, room: Vec<u8>) -> Ahead<S>
@@ -117,11 +148,10 @@ impl<S: PageSource> PageSource for Ahead<S> {
             return self.source.read_at(at, buffer);
         }
         self.held = 0;
-        match fill_room(&mut self.source, at, self.room.as_mut_slice()) {
+        match read_ahead(&mut self.source, at, buffer, self.room.as_mut_slice()) {
             Ok(count) => {
                 self.from = at;
                 self.held = count;
-                copy_from(self.room.as_slice(), 0, buffer);
                 Ok(())
             }
             Err(fault) => Err(fault),
