@@ -6,6 +6,7 @@
     cutting.py clocks PROGRAM COUNT     the same of archives whose clock stood still, went back or ran ahead, and COUNT pairs
     cutting.py growing PROGRAM          an archive that is recorded, with restarts, while it is cut: parts of the time so far
     cutting.py odd PROGRAM              times that are missing, torn or wrong, files that are damaged or gone, clocks
+    cutting.py damaged PROGRAM          three files of which one is damaged in the middle: it is left out, which is told
     cutting.py meeting PROGRAM          two files of which the second goes on with the first, or doesn't for one reason
 
 An archive is a list of files, and a file one of commands, each with when it was committed. A line of times is written
@@ -501,6 +502,39 @@ def odd(program):
                 assert (ran.returncode, links_in(ran.stdout)) == (0 if want else 1, want), (kind, ran.stderr, links_in(ran.stdout), want)
 
 
+def damaged(program):
+    """One of three files is damaged in a head in its middle. It is left out, and that is told however short it is."""
+    for length in 2000, 60000:
+        for broken in range(3):
+            with tempfile.TemporaryDirectory() as folder:
+                begins = [START + length * at for at in range(4)]
+                files = [File(1 + at, begin, at > 0) for at, begin in enumerate(begins[:3])]
+                for at, file in enumerate(files):
+                    serial = 10 * (1 + at)
+                    file.begun(begins[at], [(serial, [b"head"])])
+                    for number in range(1, 9):
+                        file.put(begins[at] + length * number // 10, [(serial, 960 * (8 * at + number), b"packet %d of %d" % (number, at))])
+                    file.end(begins[at + 1], serial)
+                    file.save(folder)
+                file = files[broken]
+                with open(f"{folder}/{file.name()}.ogg", "r+b") as out:
+                    out.seek(file.data.rindex(b"OggS", 0, len(file.data) // 2))
+                    out.write(b"x")
+                file.commands = []
+                archive = Archive(program, folder, files)
+                ran = archive.run(None, None, "--raw")
+                assert ran.returncode == 0 and links_in(ran.stdout) == archive.want(None, None), (length, broken, ran.stderr)
+                lines = ran.stderr.decode().splitlines()
+                assert lines[0].split()[3:5] == ["2", "files"], lines
+                # What follows the last file is nothing up to now.
+                until = told(begins[broken + 1]) if broken < 2 else lines[1].split()[-1]
+                assert lines[1] == f"nothing from {told(begins[broken])} to {until}", (length, broken, lines)
+                if length > 10000:
+                    # Up to the damage nothing is left out.
+                    before = archive.run(None, begins[broken] + length // 10, "--raw")
+                    assert b"packet 1 of %d" % broken in before.stdout and b"nothing from " not in before.stderr, (broken, before)
+
+
 def growing(program):
     """What is sent at a known pace is recorded into files of two seconds, by programs that are stopped. What is cut from the
     moment of each cut to that of the next, while it is recorded, has each packet once, in order."""
@@ -628,6 +662,8 @@ def main():
             cuts(sys.argv[2], int(sys.argv[3]))
         elif sys.argv[1] == "meeting":
             meeting(sys.argv[2])
+        elif sys.argv[1] == "damaged":
+            damaged(sys.argv[2])
         elif sys.argv[1] == "parts":
             parts(sys.argv[2], int(sys.argv[3]))
         elif sys.argv[1] == "clocks":

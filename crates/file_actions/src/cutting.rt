@@ -1,4 +1,5 @@
 //! The command that cuts out of an archive what was recorded between two times.
+ghost use Rattle.std.specs.Prelude.{◌≡◌, IsSome, None, false, true};
 
 use crate::cut_lines::{Told, nothing_line, put_cut};
 use crate::files::{flushed, output};
@@ -108,11 +109,61 @@ struct Finds {
 struct Air {
     // since when no link was open, if none is
     quiet: Option<u64>,
+    // a file was left out since then
+    is_lost: bool,
     // the time up to which is told
     told: u64,
     // the file before, and whether it was looked at
     before: Option<Name>,
     is_known: bool,
+}
+
+impl Air {
+    /// No file was looked at yet.
+    fn from(since: Option<u64>) -> Air {
+        Air {
+            quiet: since,
+            is_lost: false,
+            told: 0,
+            before: None,
+            is_known: false,
+        }
+    }
+
+    /// A file isn't looked at, since nothing of it is asked for.
+    fn pass(&mut self, name: Name) {
+        self.before = Some(name);
+        self.is_known = false;
+    }
+
+    /// A file is left out that was begun at this time.
+    fn leave_out(&mut self, name: Name, begin: u64)
+        ensures { IsSome self.new.quiet × (self.new.is_lost ≡ true) }
+    {
+        let told = match self.before {
+            Some(_) => self.told,
+            None => begin,
+        };
+        self.quiet = Some(self.quiet.unwrap_or(told));
+        self.is_lost = true;
+        self.before = Some(name);
+        self.is_known = true;
+    }
+
+    /// A link is open from now on.
+    fn open(&mut self)
+        ensures { (self.new.quiet ≡ None) × (self.new.is_lost ≡ false) }
+    {
+        self.quiet = None;
+        self.is_lost = false;
+    }
+
+    /// For how long there must be nothing, that it is told, in milliseconds.
+    fn least_gap(&self) -> u64
+        ensures { self.now.is_lost ≡ true → result ≡ 1 }
+    {
+        if self.is_lost { 1 } else { GAP }
+    }
 }
 
 /// A file that is looked at.
@@ -199,12 +250,7 @@ impl<'a> Asked<'a> {
             from: 0,
             to: 0,
             gaps: Vec::new(self.rt.alloc()),
-            air: Air {
-                quiet: self.since,
-                told: 0,
-                before: None,
-                is_known: false,
-            },
+            air: Air::from(self.since),
         };
         let mut rest = seen.files.as_slice();
         while let Some((file, others)) = rest.split_first() {
@@ -230,20 +276,20 @@ impl<'a> Asked<'a> {
         };
         let is_asked = self.is_asked(begin_of(file), later);
         let seen = if is_asked {
-            self.see(file, later)?
+            self.see(file, later, may_be_damaged)?
         } else {
             None
         };
         match seen {
             Some(seen) => {
                 self.note_air(&seen, finds)?;
-                self.find_part(seen, may_be_damaged, finds)
+                self.find_part(seen, finds)
             }
             None => {
-                finds.air.before = Some(file.name);
-                finds.air.is_known = is_asked;
                 if is_asked {
-                    finds.air.quiet = Some(finds.air.quiet.unwrap_or(finds.air.told));
+                    finds.air.leave_out(file.name, begin_of(file));
+                } else {
+                    finds.air.pass(file.name);
                 }
                 Ok(())
             }
@@ -263,8 +309,25 @@ impl<'a> Asked<'a> {
         !all_before && !all_after
     }
 
-    /// Looks at a file. There is none if it is gone or damaged.
-    fn see(&self, file: &Listed, later: u64) -> Result<Option<Seen>, Fault> {
+    /// Looks at a file. There is none if it is gone, or if what is asked of it is damaged: if that may be, its pages are
+    /// looked at.
+    fn see(
+        &self,
+        file: &Listed,
+        later: u64,
+        may_be_damaged: bool,
+    ) -> Result<Option<Seen>, Fault> {
+        let Some(mut seen) = self.look_at(file, later)? else {
+            return Ok(None);
+        };
+        if may_be_damaged && !self.is_sound(&mut seen)? {
+            return Ok(None);
+        }
+        Ok(Some(seen))
+    }
+
+    /// Looks at a file, but not at the pages before its last line of times. There is none if it is gone or damaged.
+    fn look_at(&self, file: &Listed, later: u64) -> Result<Option<Seen>, Fault> {
         let name = file.name;
         let Ok(length) = length_of(self.rt, self.folder, name) else {
             return Ok(None);
@@ -307,29 +370,14 @@ impl<'a> Asked<'a> {
         }
     }
 
-    /// Adds what is to be cut out of the file, if there is anything.
-    fn find_part(&self, seen: Seen, may_be_damaged: bool, finds: &mut Finds) -> Result<(), Stop> {
-        let stand = self.start_in(&seen);
-        let end = self.end_in(&seen);
+    /// What is to be cut out of the file, if there is anything.
+    fn part_of(&self, seen: &Seen) -> Option<Part> {
+        let stand = self.start_in(seen);
+        let end = self.end_in(seen);
         if stand.offset >= end {
-            return Ok(());
+            return None;
         }
-        let times = seen.times.as_slice();
-        let from = counted_at(times, seen.facts, stand.offset.saturating_add(1));
-        let to = counted_at(times, seen.facts, end);
-        let first = if stand.offset == 0 {
-            first_link(times, end).map(|link| link.begun)
-        } else {
-            None
-        };
-        let last = if end == seen.length {
-            // If no line tells of a link, it may be one that began where the file does.
-            last_link(times, end).or(Some(Join { begin: 0, begun: 0 }))
-        } else {
-            None
-        };
-        let mut source = seen.source;
-        let mut part = Part {
+        Some(Part {
             name: seen.name,
             line: seen.line,
             start: stand.offset,
@@ -339,10 +387,29 @@ impl<'a> Asked<'a> {
             stays_open: false,
             cut: None,
             ends: Vec::new(self.rt.alloc()),
-        };
-        if may_be_damaged && !self.is_sound(&mut source, &mut part)? {
+        })
+    }
+
+    /// Adds what is to be cut out of the file, if there is anything.
+    fn find_part(&self, seen: Seen, finds: &mut Finds) -> Result<(), Stop> {
+        let Some(mut part) = self.part_of(&seen) else {
             return Ok(());
-        }
+        };
+        let times = seen.times.as_slice();
+        let from = counted_at(times, seen.facts, part.start.saturating_add(1));
+        let to = counted_at(times, seen.facts, part.end);
+        let first = if part.start == 0 {
+            first_link(times, part.end).map(|link| link.begun)
+        } else {
+            None
+        };
+        let last = if part.end == seen.length {
+            // If no line tells of a link, it may be one that began where the file does.
+            last_link(times, part.end).or(Some(Join { begin: 0, begun: 0 }))
+        } else {
+            None
+        };
+        let mut source = seen.source;
         self.join(&mut source, &mut part)?;
         let waits = Waits {
             part,
@@ -354,9 +421,13 @@ impl<'a> Asked<'a> {
         self.add(waits, from, to, finds)
     }
 
-    /// Whether the part can be cut: its pages are looked at.
-    fn is_sound(&self, source: &mut Prefix<FileDisk>, part: &mut Part) -> Result<bool, Fault> {
-        match self.join(source, part) {
+    /// Whether what is asked of the file can be cut out of it: its pages are looked at.
+    fn is_sound(&self, seen: &mut Seen) -> Result<bool, Fault> {
+        let Some(mut part) = self.part_of(seen) else {
+            return Ok(true);
+        };
+        let source = &mut seen.source;
+        match self.join(source, &mut part) {
             Ok(()) => {}
             Err(Stop::Failed(fault)) => return Err(fault),
             Err(Stop::Damaged) => return Ok(false),
@@ -604,7 +675,7 @@ impl<'a> Asked<'a> {
         match finds.air.quiet {
             Some(quiet) => if is_open {
                 self.add_gap(quiet, time, finds)?;
-                finds.air.quiet = None;
+                finds.air.open();
             },
             None => if !is_open {
                 finds.air.quiet = Some(time);
@@ -622,11 +693,12 @@ impl<'a> Asked<'a> {
         }
     }
 
-    /// Adds the line of a gap, as far as it lies in the time that is asked for, if it is long enough.
+    /// Adds the line of a gap, as far as it lies in the time that is asked for, if it is long enough or a file is left out
+    /// in it.
     fn add_gap(&self, from: u64, to: u64, finds: &mut Finds) -> Result<(), Fault> {
         let from = from.max(self.since.unwrap_or(0));
         let to = to.min(self.until.unwrap_or(u64::MAX));
-        if to.saturating_sub(from) < GAP {
+        if to.saturating_sub(from) < finds.air.least_gap() {
             return Ok(());
         }
         or_memory(
