@@ -9,7 +9,10 @@
 #![tactic(auto)]
 
 mod checks;
+mod cut_gaps;
+mod cut_heads;
 mod cut_lines;
+mod cut_parts;
 mod cutting;
 mod files;
 mod finishing;
