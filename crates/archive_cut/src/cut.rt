@@ -18,6 +18,7 @@ ghost use Rattle.archive_cut.specs.Starting.{IsStart, IsStartJoined, IsStartWait
 use crate::endings::ends_of;
 use crate::fault::CutFault;
 use crate::heads::{next_begin, take_pages};
+use crate::stretch::copy_text;
 use archive_times::Join;
 use link_chain::StreamState;
 use ogg_page::{PageSource, SourceFault};
@@ -43,17 +44,6 @@ impl Model for Cut {
     ghost view = { λ c. record { listener = c.listener; end = c.end; text = drop c.sent c.text.items } };
 
     ghost invariant = { λ c. c.sent ≤ length c.text.items };
-}
-
-/// Copies the first bytes of the text into the buffer, as many as it holds, and returns how many these are.
-fn copy_text(text: &[u8], buffer: &mut [u8]) -> usize
-    ensures count { result ≡ min (length text.now) (length buffer.old) }
-    ensures given { take result buffer.new ≡ take (length buffer.old) text.now }
-{
-    let count = text.len().min(buffer.len());
-    let (front, _) = buffer.split_at_mut(count);
-    front.copy_from_slice(&text[..count]);
-    count
 }
 
 /// The cut from a place where no link is open.

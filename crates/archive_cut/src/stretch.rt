@@ -58,7 +58,7 @@ fn read_part<S: PageSource>(
 }
 
 /// Copies the first bytes of the text into the buffer, as many as it holds, and returns how many these are.
-fn copy_text(text: &[u8], buffer: &mut [u8]) -> usize
+pub(crate) fn copy_text(text: &[u8], buffer: &mut [u8]) -> usize
     ensures count { result ≡ min (length text.now) (length buffer.old) }
     ensures given { take result buffer.new ≡ take (length buffer.old) text.now }
 {

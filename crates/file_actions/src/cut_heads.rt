@@ -12,13 +12,11 @@ use archive_times::Join;
 use disk_model::FileDisk;
 use fault_lines::Fault;
 use link_chain::StreamState;
-use ogg_page::FIXED_SIZE;
+use ogg_page::{FIXED_SIZE, SEQUENCE_END};
 use std::alloc::Global;
 
-/// Where the number of a page stands in its head (RFC 3533, section 6).
+/// Where the number of a page begins in its head (RFC 3533, section 6).
 const NUMBER_AT: usize = 18;
-
-const NUMBER_END: usize = 22;
 
 impl<'a> Asked<'a> {
     /// Counts the pages of the part that waits.
@@ -139,7 +137,7 @@ fn without_gap(head: &mut [u8], said: Said, gap: u64) {
         return;
     }
     let heard = u64::from(said.number).saturating_sub(gap);
-    let (front, _) = head.split_at_mut(NUMBER_END.min(head.len()));
+    let (front, _) = head.split_at_mut(SEQUENCE_END.min(head.len()));
     let (_, own) = front.split_at_mut(NUMBER_AT.min(front.len()));
     for (to, from) in own.iter_mut().zip((heard as u32).to_le_bytes()) {
         *to = from;
