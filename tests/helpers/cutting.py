@@ -7,6 +7,7 @@
     cutting.py growing PROGRAM          an archive that is recorded, with restarts, while it is cut: parts of the time so far
     cutting.py odd PROGRAM              times that are missing, torn or wrong, files that are damaged or gone, clocks
     cutting.py damaged PROGRAM          three files of which one is damaged in the middle: it is left out, which is told
+    cutting.py again PROGRAM            links that have the serials of links before, with Skeletons and without
     cutting.py meeting PROGRAM          two files of which the second goes on with the first, or doesn't for one reason
 
 An archive is a list of files, and a file one of commands, each with when it was committed. A line of times is written
@@ -32,6 +33,8 @@ from pages import page
 
 # 2021-01-01T14:00:00Z
 START = 1609509600000
+# what a Skeleton's first packet begins with
+SKELETON = b"fishead\0"
 
 
 def told(moment):
@@ -59,10 +62,10 @@ class File:
         what = [[serial, list(headers)] for serial, headers in streams]
         if skeleton is not None:
             bones = [b"fisbone" + serial.to_bytes(4, "little") for serial, _ in streams]
-            pages.insert(0, run_pages(skeleton, 0, 2, [(0, b"fishead")])[0])
+            pages.insert(0, run_pages(skeleton, 0, 2, [(0, SKELETON)])[0])
             pages += [page(0, 0, skeleton, 1 + at, [len(bone)], bone) for at, bone in enumerate(bones)]
             self.streams = {skeleton: [2 + len(bones), 0, True], **self.streams}
-            what.insert(0, [skeleton, [b"fishead"] + bones])
+            what.insert(0, [skeleton, [SKELETON] + bones])
         for serial, headers in streams:
             rest = run_pages(serial, 1, 0, [(0, header) for header in headers[1:]])
             self.streams[serial][0] += len(rest)
@@ -163,7 +166,7 @@ def held(file, when, since, until):
                 own[1].append(packet)
         elif kind == "end":
             ended.add(what)
-            if len(ended) == sum(1 for _, packets in begin if packets[0] != b"fishead"):
+            if len(ended) == sum(1 for _, packets in begin if packets[0] != SKELETON):
                 begin = None
     return links
 
@@ -191,7 +194,7 @@ class Chosen:
     def open_at(self, begin, behind):
         """The streams of this Begin that are open before the command, in order, with what they began with."""
         ended = {what for kind, what, _, _ in self.file.commands[begin + 1 : behind] if kind == "end"}
-        return [(serial, packets[0]) for serial, packets in self.file.commands[begin][1] if packets[0] != b"fishead" and serial not in ended]
+        return [(serial, packets[0]) for serial, packets in self.file.commands[begin][1] if packets[0] != SKELETON and serial not in ended]
 
     def going_on(self):
         """The streams with which the file goes on, and which command comes after those that belong to its Begin."""
@@ -502,6 +505,20 @@ def odd(program):
                 assert (ran.returncode, links_in(ran.stdout)) == (0 if want else 1, want), (kind, ran.stderr, links_in(ran.stdout), want)
 
 
+def again(program):
+    """Serials that stood in a link before stay if a Skeleton speaks of them. All links are finished."""
+    for skeletons in (70, 70), (None, 70), (70, 71):
+        with tempfile.TemporaryDirectory() as folder:
+            file = File(1, START)
+            for at, skeleton in enumerate(skeletons):
+                when = START + 5000 * at
+                file.begun(when, [(7, [b"head"])], skeleton)
+                file.put(when + 1200, [(7, 960, b"packet of link %d" % at)])
+                file.end(when + 2400, 7)
+            file.save(folder)
+            Archive(program, folder, [file]).compare(None, None)
+
+
 def damaged(program):
     """One of three files is damaged in a head in its middle. It is left out, and that is told however short it is."""
     for length in 2000, 60000:
@@ -664,6 +681,8 @@ def main():
             meeting(sys.argv[2])
         elif sys.argv[1] == "damaged":
             damaged(sys.argv[2])
+        elif sys.argv[1] == "again":
+            again(sys.argv[2])
         elif sys.argv[1] == "parts":
             parts(sys.argv[2], int(sys.argv[3]))
         elif sys.argv[1] == "clocks":

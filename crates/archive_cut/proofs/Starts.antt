@@ -247,6 +247,8 @@ ready_to_wait bytes committed more links moment start end is end_is l w =
 pub record IsReadyToJoin (bytes committed : List ℕ) (links : List (List Page)) (moment : Moment) (start end : ℕ) (link : Join) : Type 0 where
   pub up_to : List (List Page)
   pub further : List (List Page)
+  -- the pages of the link before the start, and those since
+  pub before : List Page
   pub own : List Page
   pub since : List Page
   pub more : List ℕ
@@ -257,8 +259,9 @@ pub record IsReadyToJoin (bytes committed : List ℕ) (links : List (List Page))
   pub are_pages : AllByRecursion IsPage (flattened further)
   pub since_stand : StandUpTo bytes start end since
   pub found : start + length (bytes_of_pages (up_to_first since)) ≡ length (flat_map bytes_of_pages up_to)
-  pub own_stand : StandUpTo bytes link.begin (length (flat_map bytes_of_pages up_to)) own
-  pub own_streams : streams_after [] own ≡ (chain_state_of up_to).streams
+  pub before_stand : StandUpTo bytes link.begin start before
+  pub own_stand : StandUpTo bytes start (length (flat_map bytes_of_pages up_to)) own
+  pub own_streams : streams_after (streams_after [] before) own ≡ (chain_state_of up_to).streams
   pub further_stand : StandUpTo bytes (length (flat_map bytes_of_pages up_to)) end (flattened further)
   pub all_streams : streams_after (chain_state_of up_to).streams (flattened further) ≡ (chain_state_of links).streams
   pub same : IsSameLink moment committed (nat_eq (length (flat_map bytes_of_pages up_to)) end)
@@ -299,6 +302,9 @@ ready_to_join bytes committed more links moment start end link is end_is l j =
     let size : length committed ≡ length front + length (bytes_of_pages pages) = ap length committed_is ∙ length-append front (bytes_of_pages pages) in
     let own_are : AllByRecursion IsPage own = subst (AllByRecursion IsPage) own_pages one.are_pages in
     let since_are : AllByRecursion IsPage since = (all_split IsPage moment.passed since (all_split IsPage moment.begin (moment.passed ++ since) own_are).1).1 in
+    let before_are : AllByRecursion IsPage (moment.begin ++ moment.passed) =
+    (all_split IsPage (moment.begin ++ moment.passed) since (subst (AllByRecursion IsPage) (sym (append_assoc moment.begin moment.passed since)) own_are)).0 in
+    let bytes_on : bytes ≡ front ++ (bytes_of_pages since ++ rest) = bytes_are ∙ ap (λ x. x ++ rest) up_is ∙ append_assoc front (bytes_of_pages since) rest in
     let pages_are : AllByRecursion IsPage pages = pages_both since further since_are b.are_pages in
     let own_ended : AllButLast (λ x. all_ended x ≡ true) (at.before ++ own ∷ []) =
     subst (λ (x : List (List Page)). AllButLast (λ y. all_ended y ≡ true) x) at.split b.up_links.ended in
@@ -308,7 +314,8 @@ ready_to_join bytes committed more links moment start end link is end_is l j =
     record {
       up_to = j.up_to;
       further = j.further;
-      own = own;
+      before = moment.begin ++ moment.passed;
+      own = since;
       since = pages;
       more = rest;
       up_links = b.up_links;
@@ -319,8 +326,15 @@ ready_to_join bytes committed more links moment start end link is end_is l j =
       since_stand = stands_behind bytes front pages more start end (is ∙ ap (λ x. x ++ more) committed_is ∙ append_assoc front (bytes_of_pages pages) more) front_is
           (omega (arith, size, front_is, end_is)) pages_are;
       found = ap (λ x. start + length (bytes_of_pages x)) first_is ∙ omega (arith, up_size, front_is);
-      own_stand = subst (λ n. StandUpTo bytes n until own) (sym begin_is) (subst (StandUpTo bytes (length before) until) own_pages one.stand);
-      own_streams = sym (streams_alone (chain_state_of at.before).streams own (closed_before at.before own [] own_ended) one.each.0)
+      before_stand = stands_behind bytes before (moment.begin ++ moment.passed) (bytes_of_pages since ++ rest) link.begin start
+          (bytes_on ∙ append_assoc before (bytes_of_pages moment.begin ++ bytes_of_pages moment.passed) (bytes_of_pages since ++ rest)
+          ∙ ap (λ x. before ++ (x ++ (bytes_of_pages since ++ rest))) (sym (bytes_both moment.begin moment.passed)))
+          (sym begin_is) (omega (arith, begun_is, start_is, ap length (bytes_both moment.begin moment.passed), length-append (bytes_of_pages moment.begin) (bytes_of_pages moment.passed)))
+          before_are;
+      own_stand = stands_behind bytes front since rest start until bytes_on front_is (omega (arith, up_size, front_is)) since_are;
+      own_streams = sym (after_both (moment.begin ++ moment.passed) since [])
+          ∙ ap (streams_after []) (append_assoc moment.begin moment.passed since)
+          ∙ sym (streams_alone (chain_state_of at.before).streams own (closed_before at.before own [] own_ended) one.each.0)
           ∙ ap (streams_after (chain_state_of at.before).streams) (sym own_pages) ∙ one.streams;
       further_stand = b.stand;
       all_streams = b.streams;

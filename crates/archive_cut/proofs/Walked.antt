@@ -1,7 +1,7 @@
 -- Pages are walked over one after the other.
 use Rattle.std.proofs.Common.{◌≡◌, ℕ, ◌+◌, ◌<◌, ◌≤◌, true, false, List, [], ◌∷◌, ◌++◌, length, drop, take, refl, sym, ◌∙◌, ap, subst, arith, append_assoc, length-append, drop-drop}
 use Rattle.std.proofs.lemmas.Bool.{cond-true, cond-false}
-use Rattle.std.proofs.lemmas.List.{append-nil, drop_at, take_at}
+use Rattle.std.proofs.lemmas.List.{append-nil, drop_at, take-append-le, take_at}
 use Rattle.ogg_page.specs.Head.{Stands, checksum_in, head_size}
 use Rattle.ogg_page.specs.LogicalStream.{is_first}
 use Rattle.ogg_page.specs.Page.{Page, IsPage, fixed_part, page_bytes, page_size, bytes_of_pages}
@@ -93,3 +93,6 @@ lacing_is page =
 
 pub stands_alone : (page : Page) → IsPage page → Stands (page_bytes page) page
 stands_alone page is = record { is_page = is; tail = []; spelled = sym (append-nil (page_bytes page)) }
+
+pub head_in_front : (page : Page) (rest : List ℕ) → take (head_size page) (page_bytes page ++ rest) ≡ take (head_size page) (page_bytes page)
+head_in_front page rest = take-append-le (head_size page) (page_bytes page) rest (omega (arith, length-page_bytes page))

@@ -6,15 +6,15 @@ ghost use Rattle.ogg_page.specs.Window.{KeepsSource};
 ghost use Rattle.serve_live.specs.Renumbering.{back_of};
 ghost use Rattle.archive_cut.specs.Continuing.{IsMeeting, StandsIn, firsts_of, is_begun_as, name_on, named_page, names_on, number_on, open_streams, serves};
 ghost use Rattle.archive_cut.specs.Cut.{ends_of};
-ghost use Rattle.archive_cut.specs.Heads.{StandUpTo, streams_after};
+ghost use Rattle.archive_cut.specs.Heads.{StandUpTo, said_of, streams_after};
 
 use crate::endings::ends_of;
 use crate::fault::CutFault;
-use crate::heads::{read_said, take_page, take_pages};
+use crate::heads::{Said, read_said, take_page, take_pages};
 use crate::retelling::retell;
 use archive_times::Join;
 use link_chain::StreamState;
-use ogg_page::{Memory, PageSource, read_header};
+use ogg_page::{Memory, PageSource};
 use page_heads::read_front;
 use serve_live::Listener;
 use std::alloc::Global;
@@ -105,23 +105,37 @@ fn name_of(names: &[Named], serial: u32) -> Option<Named>
     names.iter().copied().find(|named| named.serial == serial)
 }
 
-/// Changes a page of the file into that of the link. It is none if its number would be too high, or if it is no page.
-pub fn name_page(names: &[Named], page: &mut [u8]) -> Option<()>
-    ensures { IfSome result (λ _. (whole : Page) → IsPage whole → page.old ≡ page_bytes whole
-        → page.new ≡ page_bytes (named_page names.now whole)) }
+/// What the head of a page of the file says in the link. It is none if the page's number would be too high.
+pub fn name_said(names: &[Named], said: Said) -> Option<Said>
+    ensures { IfSome result (λ found. (page : Page) → said ≡ said_of page → found ≡ said_of (named_page names.now page)) }
 {
-    let Ok(header) = read_header(page) else {
-        return None;
-    };
-    match name_of(names, header.head.serial) {
-        Some(named) => match named.number_on(header.head.sequence) {
-            Some(number) => {
-                retell(page, named.name, number);
-                Some(())
-            }
+    match name_of(names, said.serial) {
+        Some(named) => match named.number_on(said.number) {
+            Some(number) => Some(Said {
+                serial: named.name,
+                number,
+                ..said
+            }),
             None => None,
         },
-        None => Some(()),
+        None => Some(said),
+    }
+}
+
+/// Changes a page of the file, of which this is said, into that of the link, and returns what is said of it there. It is
+/// none if its number would be too high.
+pub fn name_page(names: &[Named], said: Said, page: &mut [u8]) -> Option<Said>
+    ensures { IfSome result (λ found. (whole : Page) → IsPage whole → page.old ≡ page_bytes whole → said ≡ said_of whole
+        → (page.new ≡ page_bytes (named_page names.now whole)) × (found ≡ said_of (named_page names.now whole))) }
+{
+    match name_said(names, said) {
+        Some(found) => {
+            if found.serial != said.serial || found.number != said.number {
+                retell(page, found.serial, found.number);
+            }
+            Some(found)
+        }
+        None => None,
     }
 }
 

@@ -17,7 +17,7 @@ ghost use Rattle.archive_cut.specs.Starting.{IsStart, IsStartJoined, IsStartWait
 
 use crate::endings::ends_of;
 use crate::fault::CutFault;
-use crate::heads::{next_begin, take_pages};
+use crate::heads::{take_link, take_pages};
 use crate::stretch::copy_text;
 use archive_times::Join;
 use link_chain::StreamState;
@@ -131,9 +131,9 @@ fn joined<S: PageSource>(
         boundary: start,
     };
     let mut streams = Vec::new(alloc);
-    match next_begin(source, start, end) {
-        Ok(link_end) => match take_pages(source, link.begin, link_end, &mut streams) {
-            Ok(()) => match join_link(alloc, source, place, link_end, streams.as_slice()) {
+    match take_pages(source, link.begin, start, &mut streams) {
+        Ok(()) => match take_link(source, start, end, &mut streams) {
+            Ok(link_end) => match join_link(alloc, source, place, link_end, streams.as_slice()) {
                 Ok(listener) => match take_pages(source, link_end, end, &mut streams) {
                     Ok(()) => {
                         listeners_hear_what_they_should();
@@ -146,7 +146,7 @@ fn joined<S: PageSource>(
             },
             Err(fault) => Err(fault),
         },
-        Err(_) => Err(CutFault::Source),
+        Err(fault) => Err(fault),
     }
 }
 

@@ -1,15 +1,13 @@
 //! Cuts in which players find each stream's end on a page with a packet.
 ghost use Rattle.std.specs.Prelude.{◌≡◌, IsSome, OnOk, Some, false};
 ghost use Rattle.ogg_finish.specs.Finishing.{finished_page, is_full, kept_at, mark_after, marked_last};
-ghost use Rattle.ogg_page.specs.Head.{header_of};
 ghost use Rattle.ogg_page.specs.LogicalStream.{is_first, is_last};
 ghost use Rattle.ogg_page.specs.Page.{Page, IsPage, page_bytes};
+ghost use Rattle.archive_cut.specs.Heads.{said_of};
 ghost use Rattle.archive_cut.specs.Ways.{pages_by, plain};
 
-use ogg_page::{
-    FIRST, LAST, Memory, Page as PageRead, PageBuffer, PageFault, PageHead, PageHeader,
-    read_header, read_page,
-};
+use crate::heads::Said;
+use ogg_page::{LAST, Memory, Page as PageRead, PageBuffer, PageFault, PageHead, read_page};
 use std::alloc::Global;
 
 /// The page that is to be marked as its stream's last.
@@ -51,47 +49,35 @@ pub enum Way {
     Goes,
 }
 
-fn is_first(header: &PageHeader) -> bool
-    ensures { (page : Page) → header.now ≡ header_of page → result ≡ is_first page }
-{
-    header.head.flags / FIRST % 2 == 1
-}
-
-fn is_last(header: &PageHeader) -> bool
-    ensures { (page : Page) → header.now ≡ header_of page → result ≡ is_last page }
-{
-    header.head.flags / LAST % 2 == 1
-}
-
 /// Whether the page can carry the mark.
-fn is_full(header: &PageHeader) -> bool
-    ensures { (page : Page) → header.now ≡ header_of page → result ≡ is_full page }
+fn is_full(said: &Said) -> bool
+    ensures { (page : Page) → said.now ≡ said_of page → result ≡ is_full page }
 {
-    header.values > 0 && !is_first(header)
+    !said.is_empty && !said.begins
 }
 
 /// Where the mark is to stand after the page.
-fn mark_after(found: Option<Mark>, header: &PageHeader, size: u64) -> Option<Mark>
-    ensures { (page : Page) → header.now ≡ header_of page → plain result ≡ mark_after (plain found) page }
+fn mark_after(found: Option<Mark>, said: &Said, size: u64) -> Option<Mark>
+    ensures { (page : Page) → said.now ≡ said_of page → plain result ≡ mark_after (plain found) page }
 {
-    if is_full(header) {
+    if is_full(said) {
         return Some(Mark {
-            sequence: header.head.sequence,
-            position: header.head.position,
+            sequence: said.number,
+            position: said.position,
             behind: 0,
         });
     }
     match found {
-        Some(mark) => kept_at(mark, header, size),
+        Some(mark) => kept_at(mark, said, size),
         None => None,
     }
 }
 
 /// The same mark, unless the later page, which can't carry it, has another position.
-fn kept_at(mark: Mark, header: &PageHeader, size: u64) -> Option<Mark>
-    ensures { (page : Page) → header.now ≡ header_of page → plain result ≡ kept_at page (plain (Some mark)) }
+fn kept_at(mark: Mark, said: &Said, size: u64) -> Option<Mark>
+    ensures { (page : Page) → said.now ≡ said_of page → plain result ≡ kept_at page (plain (Some mark)) }
 {
-    if header.head.position == mark.position || header.head.position == u64::MAX {
+    if said.position == mark.position || said.position == u64::MAX {
         Some(Mark {
             behind: mark.behind.saturating_add(size),
             ..mark
@@ -102,21 +88,21 @@ fn kept_at(mark: Mark, header: &PageHeader, size: u64) -> Option<Mark>
 }
 
 /// What is known of the stream after the page, if it is one of its own.
-fn after_page(end: StreamEnd, link: u64, header: &PageHeader, size: u64) -> StreamEnd {
-    if end.link != link || end.serial != header.head.serial {
+fn after_page(end: StreamEnd, link: u64, said: &Said, size: u64) -> StreamEnd {
+    if end.link != link || end.serial != said.serial {
         return end;
     }
     StreamEnd {
-        ended: end.ended || is_last(header),
-        mark: mark_after(end.mark, header, size),
+        ended: end.ended || said.ends,
+        mark: mark_after(end.mark, said, size),
         ..end
     }
 }
 
-/// Notes a page of the stream that it belongs to: the last of the streams with its serial.
-fn note(streams: &mut [StreamEnd], link: u64, header: &PageHeader, size: u64) {
+/// Notes a page of the stream that it belongs to.
+fn note(streams: &mut [StreamEnd], link: u64, said: &Said, size: u64) {
     for end in streams.iter_mut() {
-        *end = after_page(*end, link, header, size);
+        *end = after_page(*end, link, said, size);
     }
 }
 
@@ -164,13 +150,10 @@ impl StreamEnds {
         }
     }
 
-    /// Notes a page more, of this size. Its head is enough.
-    pub fn note(&mut self, page: &[u8], size: u64) -> Result<(), Memory> {
-        let Ok(header) = read_header(page) else {
-            return Ok(());
-        };
+    /// Notes a page more, of this size, by what its head says.
+    pub fn note(&mut self, said: &Said, size: u64) -> Result<(), Memory> {
         self.bytes = self.bytes.saturating_add(size);
-        if is_first(&header) {
+        if said.begins {
             if !is_open(self.streams.as_slice(), self.links) {
                 self.links = self.links.saturating_add(1);
             }
@@ -178,51 +161,44 @@ impl StreamEnds {
                 &mut self.streams,
                 StreamEnd {
                     link: self.links,
-                    serial: header.head.serial,
-                    ended: is_last(&header),
+                    serial: said.serial,
+                    ended: said.ends,
                     mark: None,
                 },
             )
         } else {
-            note(self.streams.as_mut_slice(), self.links, &header, size);
+            note(self.streams.as_mut_slice(), self.links, said, size);
             Ok(())
         }
     }
 
-    /// What becomes of a page of the link with this number, the first of which is 1.
-    pub fn way(&self, link: u64, page: &[u8]) -> Way {
-        let Ok(header) = read_header(page) else {
-            return Way::Stays;
-        };
-        if is_first(&header) {
+    /// What becomes of a page of the link with this number, the first of which is 1, by what its head says.
+    pub fn way(&self, link: u64, said: &Said) -> Way {
+        if said.begins {
             return Way::Stays;
         }
-        match end_in(self.streams.as_slice(), link, header.head.serial) {
+        match end_in(self.streams.as_slice(), link, said.serial) {
             Some(
                 StreamEnd {
                     ended: true,
                     mark: Some(mark),
                     ..
                 },
-            ) => way_by(mark, &header),
+            ) => way_by(mark, said),
             _ => Way::Stays,
         }
     }
 }
 
 /// What becomes of a page that isn't its stream's first.
-fn way_by(mark: Mark, header: &PageHeader) -> Way
-    ensures { (page : Page) → header.now ≡ header_of page → is_first page ≡ false
+fn way_by(mark: Mark, said: &Said) -> Way
+    ensures { (page : Page) → said.now ≡ said_of page → is_first page ≡ false
         → pages_by result page ≡ finished_page (plain (Some mark)) page }
 {
-    if header.head.sequence < mark.sequence {
+    if said.number < mark.sequence {
         Way::Stays
-    } else if header.head.sequence == mark.sequence {
-        if is_last(header) {
-            Way::Stays
-        } else {
-            Way::Marked
-        }
+    } else if said.number == mark.sequence {
+        if said.ends { Way::Stays } else { Way::Marked }
     } else {
         Way::Goes
     }

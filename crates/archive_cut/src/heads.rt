@@ -1,5 +1,5 @@
 //! What the heads of a file's pages leave of the streams of its last link.
-ghost use Rattle.std.specs.Prelude.{◌≡◌, ◌≢◌, ◌≤◌, ◌<◌, ◌+◌, ◌^◌, ℕ, List, Err, Some, length, drop, IfOk, IsErr, OnOk, OnErr};
+ghost use Rattle.std.specs.Prelude.{◌≡◌, ◌≢◌, ◌≤◌, ◌<◌, ◌+◌, ◌++◌, ◌^◌, ℕ, List, Err, Some, length, drop, IfOk, IsErr, OnOk, OnErr};
 ghost use Rattle.ogg_page.specs.Head.{Stands};
 ghost use Rattle.ogg_page.specs.Lacing.{ends_open};
 ghost use Rattle.ogg_page.specs.Page.{Page, IsPage, bytes_of_pages, page_bytes, page_size};
@@ -60,15 +60,16 @@ fn said_by(front: &PageFront) -> Option<Said>
     }
 }
 
-/// What the head of a page says, which is whole.
-pub fn said_of(page: &[u8]) -> Option<Said>
-    ensures { (whole : Page) → IsPage whole → page.now ≡ page_bytes whole → result ≡ Some (said_of whole) }
+/// What the head of a page says that begins the bytes, and the size of the page.
+pub fn said_with_size(bytes: &[u8]) -> Option<(Said, usize)>
+    ensures { (whole : Page) (rest : List ℕ) → IsPage whole → bytes.now ≡ page_bytes whole ++ rest
+        → result ≡ Some (said_of whole, page_size whole) }
 {
-    match read_header(page) {
+    match read_header(bytes) {
         Ok(header) => {
-            let (head, _) = page.split_at(FIXED_SIZE + header.values);
+            let (head, _) = bytes.split_at(FIXED_SIZE + header.values);
             let (_, lacing) = head.split_at(FIXED_SIZE);
-            Some(Said {
+            let said = Said {
                 begins: header.head.flags / FIRST % 2 == 1,
                 ends: header.head.flags / LAST % 2 == 1,
                 serial: header.head.serial,
@@ -76,9 +77,20 @@ pub fn said_of(page: &[u8]) -> Option<Said>
                 position: header.head.position,
                 is_empty: header.values == 0,
                 goes_on: ends_open(lacing),
-            })
+            };
+            Some((said, FIXED_SIZE + header.values + header.body))
         }
         Err(_) => None,
+    }
+}
+
+/// What the head of a page says, which is whole.
+pub fn said_of(page: &[u8]) -> Option<Said>
+    ensures { (whole : Page) → IsPage whole → page.now ≡ page_bytes whole → result ≡ Some (said_of whole) }
+{
+    match said_with_size(page) {
+        Some((said, _)) => Some(said),
+        None => None,
     }
 }
 
@@ -208,12 +220,21 @@ pub fn take_pages<S: PageSource>(
     Ok(())
 }
 
-/// Where the next page stands from `start` on that is a stream's first, or the end.
-pub fn next_begin<S: PageSource>(source: &mut S, start: u64, end: u64) -> Result<u64, SourceFault>
+/// Goes over the pages between two places up to the next that is a stream's first, of which the heads are read, and
+/// returns where that stands, or the end. The streams are those of the last link.
+pub fn take_link<S: PageSource>(
+    source: &mut S,
+    start: u64,
+    end: u64,
+    streams: &mut Vec<StreamState>,
+) -> Result<u64, CutFault>
     ensures found { (pages : List Page) → S.is_honest source.old → StandUpTo (S.bytes source.old) start end pages
         → IfOk result (λ place. place ≡ start + length (bytes_of_pages (up_to_first pages))) }
+    ensures taken { IfOk result (λ place. (own : List Page) → S.is_honest source.old
+        → StandUpTo (S.bytes source.old) start place own → streams.new.items ≡ streams_after streams.old.items own) }
     ensures cause { (pages : List Page) → S.is_honest source.old → StandUpTo (S.bytes source.old) start end pages
-        → IsErr result → HasFailed (S.failures source.old) (S.failures source.new) }
+        → result ≡ Err CutFault.Source → HasFailed (S.failures source.old) (S.failures source.new) }
+    ensures number { result ≢ Err CutFault.NoNumber }
     ensures later { S.failures source.old ≤ S.failures source.new }
     ensures source { KeepsSource S.bytes S.is_honest S.size S.only_reads source.old source.new }
 {
@@ -224,9 +245,12 @@ pub fn next_begin<S: PageSource>(source: &mut S, start: u64, end: u64) -> Result
                 if said.begins {
                     return Ok(place);
                 }
-                place += size;
+                match take_page(&said, streams) {
+                    Ok(()) => place += size,
+                    Err(fault) => return Err(fault),
+                }
             }
-            Err(fault) => return Err(fault),
+            Err(_) => return Err(CutFault::Source),
         }
     }
     Ok(place)

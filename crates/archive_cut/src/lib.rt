@@ -17,7 +17,7 @@ mod placing;
 mod retelling;
 mod stretch;
 
-pub use continuing::{Meeting, Named, meeting_of, name_page, names_on, open_streams};
+pub use continuing::{Meeting, Named, meeting_of, name_page, name_said, names_on, open_streams};
 pub use cut::Cut;
 pub use fault::CutFault;
 pub use finishing::{Mark, StreamEnds, Way, mark_last};

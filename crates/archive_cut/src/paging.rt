@@ -1,8 +1,9 @@
 //! A cut that is given page by page.
 
 use crate::cut::Cut;
+use crate::heads::{Said, said_with_size};
 use crate::stretch::Stretch;
-use ogg_page::{FIXED_SIZE, Memory, PageSource, SourceFault, read_header};
+use ogg_page::{Memory, PageSource, SourceFault};
 use std::alloc::Global;
 
 /// How many bytes of a cut are held at once: some of the longest pages.
@@ -42,18 +43,15 @@ fn move_to_front(bytes: &mut [u8], from: usize, to: usize) -> usize {
     to - from
 }
 
-/// The size of the page at the front, if its bytes are all there.
-fn whole_page(bytes: &[u8]) -> Option<usize> {
-    match read_header(bytes) {
-        Ok(header) => {
-            let size = FIXED_SIZE + header.values + header.body;
-            if size <= bytes.len() {
-                Some(size)
-            } else {
-                None
-            }
-        }
-        Err(_) => None,
+/// What is said of the page at the front, and its size, if its bytes are all there.
+fn whole_page(bytes: &[u8]) -> Option<(Said, usize)> {
+    match said_with_size(bytes) {
+        Some((said, size)) => if size <= bytes.len() {
+            Some((said, size))
+        } else {
+            None
+        },
+        None => None,
     }
 }
 
@@ -123,8 +121,8 @@ impl Paged {
         between(self.room.as_slice(), self.from, self.to)
     }
 
-    /// The size of the next page, if it is held as a whole.
-    pub fn next(&self) -> Option<usize> {
+    /// What is said of the next page, and its size, if it is held as a whole.
+    pub fn next(&self) -> Option<(Said, usize)> {
         whole_page(self.held())
     }
 

@@ -1,6 +1,7 @@
 //! The pages of a cut, counted by their heads before any is written.
+ghost use Rattle.std.specs.Prelude.{◌≡◌, ◌-◌, if◌then◌else◌};
 
-use crate::cut_parts::{Part, placed};
+use crate::cut_parts::{Part, or_fault};
 use crate::cutting::{Asked, Finds, Stop, Waits, push};
 use crate::telling::or_memory;
 use archive_cut::{
@@ -12,11 +13,8 @@ use archive_times::Join;
 use disk_model::FileDisk;
 use fault_lines::Fault;
 use link_chain::StreamState;
-use ogg_page::{FIXED_SIZE, SEQUENCE_END};
+use ogg_page::FIXED_SIZE;
 use std::alloc::Global;
-
-/// Where the number of a page begins in its head (RFC 3533, section 6).
-const NUMBER_AT: usize = 18;
 
 impl<'a> Asked<'a> {
     /// Counts the pages of the part that waits.
@@ -120,52 +118,48 @@ impl<'a> Asked<'a> {
     }
 }
 
-/// Counts a page by its head.
-fn count_head(head: &[u8], size: u64, finds: &mut Finds) -> Result<(), Fault> {
-    let mut bytes = [0; LONGEST_HEAD];
-    let count = head.len().min(LONGEST_HEAD);
-    let (room, _) = bytes.split_at_mut(count);
-    let (head, _) = head.split_at(count);
-    room.copy_from_slice(head);
-    placed(&mut finds.serials, room)?;
-    or_memory(finds.ends.note(room, size))
+/// Counts a page, by what its head says and the bytes that it begins with.
+fn count_page(said: Said, front: &[u8], size: u64, finds: &mut Finds) -> Result<(), Fault> {
+    let placed = or_fault(finds.serials.name(said, front))?;
+    or_memory(finds.ends.note(&placed, size))
 }
 
-/// The head under the number without the numbers that aren't heard. A stream's first page has its own.
-fn without_gap(head: &mut [u8], said: Said, gap: u64) {
+/// What is said of a page under the number without the numbers that aren't heard. A stream's first page has its own.
+fn without_gap(said: Said, gap: u64) -> Said
+    ensures { result ≡ (if said.begins then said else record said { number = said.number - gap }) }
+{
     if said.begins {
-        return;
+        return said;
     }
-    let heard = u64::from(said.number).saturating_sub(gap);
-    let (front, _) = head.split_at_mut(SEQUENCE_END.min(head.len()));
-    let (_, own) = front.split_at_mut(NUMBER_AT.min(front.len()));
-    for (to, from) in own.iter_mut().zip((heard as u32).to_le_bytes()) {
-        *to = from;
+    Said {
+        number: u64::from(said.number).saturating_sub(gap) as u32,
+        ..said
     }
 }
 
 /// Counts a page of a file by its head, and notes what it leaves of the streams of the last link. It is true if a stream
 /// begins.
 fn count_front(
-    front: PageFront,
+    front: &PageFront,
     joined: Option<&Cut>,
     streams: &mut Vec<StreamState>,
     finds: &mut Finds,
 ) -> Result<bool, Fault> {
-    let PageFront { bytes, facts } = front;
-    let mut bytes = bytes;
-    let (head, _) = bytes.split_at_mut(facts.len.min(LONGEST_HEAD));
+    let (head, _) = front.bytes.split_at(front.facts.len.min(LONGEST_HEAD));
     let Some(said) = said_of(head) else {
         return Err(Fault::File);
     };
-    if let Some(cut) = joined {
-        let gap = cut.gap(said.serial);
-        without_gap(head, said, gap);
-    }
+    let heard = match joined {
+        Some(cut) => without_gap(said, cut.gap(said.serial)),
+        None => said,
+    };
     if take_page(&said, streams).is_err() {
         return Err(Fault::Memory);
     }
-    count_head(head, facts.size, finds)?;
+    let (begin, _) = front
+        .bytes
+        .split_at(front.facts.size.min(LONGEST_HEAD as u64) as usize);
+    count_page(heard, begin, front.facts.size, finds)?;
     Ok(said.begins)
 }
 
@@ -186,7 +180,7 @@ fn count_heads(
             Ok(front) => {
                 let size = front.facts.size;
                 let heard = if has_begun { None } else { joined };
-                let begins = count_front(front, heard, streams, finds)?;
+                let begins = count_front(&front, heard, streams, finds)?;
                 has_begun = has_begun || begins;
                 place += size;
             }
@@ -215,7 +209,10 @@ pub(crate) fn is_walked(source: &mut Prefix<FileDisk>, start: u64, end: u64) -> 
 /// Counts the pages that end what is open where a cut ends.
 fn count_ends(text: &[u8], finds: &mut Finds) -> Result<(), Fault> {
     for page in text.chunks(FIXED_SIZE) {
-        count_head(page, FIXED_SIZE as u64, finds)?;
+        let Some(said) = said_of(page) else {
+            return Err(Fault::File);
+        };
+        count_page(said, page, FIXED_SIZE as u64, finds)?;
     }
     Ok(())
 }
@@ -229,9 +226,8 @@ fn count_pages(
     let mut pages = pages;
     for _ in 0..u64::MAX {
         match pages.next() {
-            Some(size) => {
-                placed(&mut finds.serials, pages.page_mut(size))?;
-                or_memory(finds.ends.note(pages.page(size), size as u64))?;
+            Some((said, size)) => {
+                count_page(said, pages.page(size), size as u64, finds)?;
                 pages.pass(size);
             }
             None => match pages.fill(source) {

@@ -3,7 +3,7 @@
 use crate::cutting::{Asked, Finds};
 use crate::serials::{NoPlace, Serials};
 use crate::telling::or_memory;
-use archive_cut::{Cut, Paged, StreamEnds, Stretch, Way, mark_last, page_room};
+use archive_cut::{Cut, Paged, Said, StreamEnds, Stretch, Way, mark_last, page_room};
 use archive_names::Name;
 use archive_reading::{Ahead, Prefix, ReadingFault, committed};
 use archive_times::{Join, Line};
@@ -50,24 +50,39 @@ struct PartPages {
 }
 
 impl PartPages {
-    /// The size of the next page, which is changed into that of the cut, or 0 at the end. What was passed is written before
-    /// more is read.
-    fn next<W: Write>(&mut self, serials: &mut Serials, out: &mut W) -> Result<usize, Fault> {
-        if self.paged.next().is_none() {
-            write_bytes(self.paged.passed(), out)?;
-            match self.paged.fill(&mut self.source) {
-                Ok(true) => {}
-                Ok(false) => return Ok(0),
-                Err(_) => return Err(Fault::File),
-            }
-        }
+    /// What is said of the next page, which is changed into that of the cut, and its size, unless the end is reached. What
+    /// was passed is written before more is read.
+    fn next<W: Write>(
+        &mut self,
+        serials: &mut Serials,
+        out: &mut W,
+    ) -> Result<Option<(Said, usize)>, Fault> {
         match self.paged.next() {
-            Some(size) => {
-                placed(serials, self.paged.page_mut(size))?;
-                Ok(size)
+            Some(found) => self.place(found, serials),
+            None => {
+                write_bytes(self.paged.passed(), out)?;
+                match self.paged.fill(&mut self.source) {
+                    Ok(true) => {}
+                    Ok(false) => return Ok(None),
+                    Err(_) => return Err(Fault::File),
+                }
+                match self.paged.next() {
+                    Some(found) => self.place(found, serials),
+                    None => Err(Fault::File),
+                }
             }
-            None => Err(Fault::File),
         }
+    }
+
+    /// Changes the next page into that of the cut.
+    fn place(
+        &mut self,
+        found: (Said, usize),
+        serials: &mut Serials,
+    ) -> Result<Option<(Said, usize)>, Fault> {
+        let (said, size) = found;
+        let placed = or_fault(serials.place(said, self.paged.page_mut(size)))?;
+        Ok(Some((placed, size)))
     }
 
     /// Writes what was passed, and leaves out the next page, of this size.
@@ -79,10 +94,10 @@ impl PartPages {
     }
 }
 
-/// Changes the next page, of which the head is enough, into that of the cut.
-pub(crate) fn placed(serials: &mut Serials, page: &mut [u8]) -> Result<(), Fault> {
-    match serials.place(page) {
-        Ok(()) => Ok(()),
+/// A page that has no place in the cut is a fault.
+pub(crate) fn or_fault(placed: Result<Said, NoPlace>) -> Result<Said, Fault> {
+    match placed {
+        Ok(said) => Ok(said),
         Err(NoPlace::Memory) => Err(Fault::Memory),
         Err(NoPlace::Page) => Err(Fault::File),
     }
@@ -90,7 +105,12 @@ pub(crate) fn placed(serials: &mut Serials, page: &mut [u8]) -> Result<(), Fault
 
 impl<'a> Asked<'a> {
     /// Writes all parts.
-    pub(crate) fn write<W: Write>(&self, finds: Finds, raw: bool, out: &mut W) -> Result<(), Fault> {
+    pub(crate) fn write<W: Write>(
+        &self,
+        finds: Finds,
+        raw: bool,
+        out: &mut W,
+    ) -> Result<(), Fault> {
         let Finds { parts, ends, .. } = finds;
         let mut passed = StreamEnds::new(self.rt.alloc());
         let mut serials = Serials::new(self.rt.alloc());
@@ -156,11 +176,10 @@ fn write_raw<W: Write>(
     out: &mut W,
 ) -> Result<(), Fault> {
     for _ in 0..u64::MAX {
-        let size = pages.next(serials, out)?;
-        if size == 0 {
-            return Ok(());
+        match pages.next(serials, out)? {
+            Some((_, size)) => pages.paged.pass(size),
+            None => return Ok(()),
         }
-        pages.paged.pass(size);
     }
     Err(Fault::File)
 }
@@ -182,17 +201,15 @@ fn write_finished<W: Write>(
     out: &mut W,
 ) -> Result<(), Fault> {
     for _ in 0..u64::MAX {
-        let size = pages.next(serials, out)?;
-        if size == 0 {
+        let Some((said, size)) = pages.next(serials, out)? else {
             return Ok(());
-        }
-        let page = pages.paged.page(size);
-        or_memory(passed.note(page, size as u64))?;
-        match ends.way(passed.links(), page) {
+        };
+        or_memory(passed.note(&said, size as u64))?;
+        match ends.way(passed.links(), &said) {
             Way::Stays => pages.paged.pass(size),
             Way::Goes => pages.leave_out(size, out)?,
             Way::Marked => {
-                let Ok(()) = mark_last(page, marked) else {
+                let Ok(()) = mark_last(pages.paged.page(size), marked) else {
                     return Err(Fault::File);
                 };
                 pages.leave_out(size, out)?;

@@ -220,12 +220,7 @@ impl<'a> Asked<'a> {
 
     /// Looks at a file. There is none if it is gone, or if what is asked of it is damaged: if that may be, its pages are
     /// looked at.
-    fn see(
-        &self,
-        file: &Listed,
-        later: u64,
-        may_be_damaged: bool,
-    ) -> Result<Option<Seen>, Fault> {
+    fn see(&self, file: &Listed, later: u64, may_be_damaged: bool) -> Result<Option<Seen>, Fault> {
         let Some(mut seen) = self.look_at(file, later)? else {
             return Ok(None);
         };

@@ -1,7 +1,7 @@
 //! The serials of a cut: none stands in two of its links, if no Skeleton speaks of them. What goes on with a link has the
 //! serials of that link.
 
-use archive_cut::{Named, name_page, names_on, open_streams, said_of, take_page};
+use archive_cut::{Named, Said, name_page, name_said, names_on, open_streams, take_page};
 use link_chain::StreamState;
 use ogg_page::{FIXED_SIZE, Memory, read_header};
 use std::alloc::Global;
@@ -56,19 +56,32 @@ impl Serials {
         Ok(())
     }
 
-    /// Changes the next page into that of the cut.
-    pub(crate) fn place(&mut self, page: &mut [u8]) -> Result<(), NoPlace> {
-        let Some(said) = said_of(page) else {
-            return Err(NoPlace::Page);
-        };
+    /// Changes the next page, of which this is said, into that of the cut, and returns what is said of it there.
+    pub(crate) fn place(&mut self, said: Said, page: &mut [u8]) -> Result<Said, NoPlace> {
+        self.pass(said, page)?;
+        match name_page(self.names.as_slice(), said, page) {
+            Some(placed) => self.note(placed),
+            None => Err(NoPlace::Page),
+        }
+    }
+
+    /// What is said of the next page in the cut. `front` has the page's first bytes: its head, and of a stream's first page
+    /// what its packet begins with.
+    pub(crate) fn name(&mut self, said: Said, front: &[u8]) -> Result<Said, NoPlace> {
+        self.pass(said, front)?;
+        match name_said(self.names.as_slice(), said) {
+            Some(placed) => self.note(placed),
+            None => Err(NoPlace::Page),
+        }
+    }
+
+    /// Goes on to the next page.
+    fn pass(&mut self, said: Said, front: &[u8]) -> Result<(), NoPlace> {
         if said.begins {
-            self.begin(said.serial, is_skeleton(page))?;
+            self.begin(said.serial, is_skeleton(front))?;
         }
         self.begins = said.begins;
-        if name_page(self.names.as_slice(), page).is_none() {
-            return Err(NoPlace::Page);
-        }
-        self.note(page)
+        Ok(())
     }
 
     /// A stream begins.
@@ -107,13 +120,10 @@ impl Serials {
     }
 
     /// Notes a page of the cut.
-    fn note(&mut self, page: &[u8]) -> Result<(), NoPlace> {
-        match said_of(page) {
-            Some(said) => match take_page(&said, &mut self.streams) {
-                Ok(()) => Ok(()),
-                Err(_) => Err(NoPlace::Memory),
-            },
-            None => Err(NoPlace::Page),
+    fn note(&mut self, placed: Said) -> Result<Said, NoPlace> {
+        match take_page(&placed, &mut self.streams) {
+            Ok(()) => Ok(placed),
+            Err(_) => Err(NoPlace::Memory),
         }
     }
 }
