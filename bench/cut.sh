@@ -1,8 +1,9 @@
 #!/usr/bin/env bash
 # Measures `cut` of an archive: ten seconds out of 10,000 files, beside `ls` of the folder, `list` of them, beside `ls -l`,
-# and all of a recording in pages of 4 kB over files that go on with one another, beside `cp` with a sync of as many bytes,
-# and beside a program that reads and writes them. CPU seconds (user and system) and seconds by the clock are the best of
-# three runs that take turns; kB are the most memory that a run had. Not part of the tests.
+# and all of a recording in pages of 4 kB over files that go on with one another, once from its beginning and once from a
+# time on at which a link was open, beside `cp` with a sync of as many bytes, and beside a program that reads and writes
+# them. CPU seconds (user and system) and seconds by the clock are the best of three runs that take turns; kB are the most
+# memory that a run had. Not part of the tests.
 #
 #     apt-get install libogg-dev && bench/cut.sh [BYTES]      none: 1000000000
 #
@@ -76,9 +77,19 @@ rm -rf "$work/many"
 "$work/pages_made" "$bytes" 4000 >"$work/file"
 "$archive" archive "$work/all/" --every 1d --most-bytes $((bytes / 4)) <"$work/file" 2>"$work/err"
 rm "$work/file"
+# When the first line of times was written: the link is open there, and is joined.
+since=$(python3 - "$work/all" <<'END'
+import os, sys, time
+folder = sys.argv[1]
+name = sorted(name for name in os.listdir(folder) if name.endswith(".times"))[0]
+when = int(open(f"{folder}/{name}").readline().split()[1])
+print(time.strftime("%Y-%m-%dT%H:%M:%S", time.gmtime(when // 1000)) + f".{when % 1000:03}Z")
+END
+)
 for _ in 1 2 3; do
-    rm -f "$work/out.ogg" "$work/copy.ogg"
+    rm -f "$work/out.ogg" "$work/copy.ogg" "$work/joined.ogg"
     sync
+    took "$work/joined.s" "$work/joined.ogg" "$archive" cut "$work/all" --since "$since"
     took "$work/cut.s" "$work/out.ogg" "$archive" cut "$work/all"
     took "$work/cp.s" "$work/copied" /bin/cp "$work/out.ogg" "$work/copy.ogg"
     took "$work/sync.s" "$work/copied" /bin/sync "$work/copy.ogg"
@@ -90,3 +101,4 @@ paste -d ' ' "$work/cp.s" "$work/sync.s" | awk '{ printf "%.3f %.4f %d\n", $1 + 
 name="\`cut\`, all of $((bytes / 1000000)) MB in $(ls "$work/all" | grep -c 'ogg$') files"
 both "$name" "$work/cut.s" 'cp and a sync' "$work/both.s"
 both "$name" "$work/cut.s" 'dd and a sync' "$work/dd.s"
+both "\`cut\`, $(($(stat -c %s "$work/joined.ogg") / 1000000)) MB from within a link on" "$work/joined.s" 'cp and a sync' "$work/both.s"
