@@ -1,4 +1,5 @@
--- A cut from a place where no link is open: the file's own bytes, and then pages that end streams. Ours.
+-- A cut from a place where no link is open: the file's own bytes, and then pages that end streams (RFC 3533, section 4).
+-- Ours.
 use Rattle.std.specs.Prelude.{◌≡◌, ℕ, ◌-◌, List, ◌++◌, length, take, drop, min}
 use Rattle.serve_live.specs.Listening.{part_at}
 

@@ -17,8 +17,9 @@ use disk_model::Disk;
 
 /// After any beginnings of files, commands, endings, settings aside, removals and stops, at any moment, whatever is read
 /// of an image can be cut by times: each file has the bytes of its own commands, and no others; over any division of time
-/// each packet that was acknowledged and not thrown away comes exactly once. Each call of a recorder is a step of such a
-/// history (`run_command` and the calls beside it).
+/// each packet that was acknowledged and not thrown away comes exactly once. Calls of a recorder are steps of such a
+/// history (`run_command` and the calls beside it). Not shown to be one, of the calls that an archive makes: `open_empty`
+/// and `flush_and_seal`, with which it begins a file and ends one with what waits.
 pub fn every_image_shows_what_is_cut<D: Disk, F: Folder<File = D>>()
     // Between two calls.
     ensures at_end { (start now : Point F D) (a : Archive CommandOf) (events : List (Event CommandOf × Archive CommandOf × Point F D))

@@ -16,8 +16,8 @@ use Rattle.record_actions.specs.Tail.{IsSoundAt, IsUnsoundAt}
 use Rattle.archive_record.specs.declared.damage.Damage.{Damage}
 use Rattle.archive_record.specs.declared.damage.Damage.TheVariants.{Unreadable, Foreign, Open, Tail}
 
--- A file can be gone on with: it doesn't begin with bytes of another kind, its pages are links that hold a recording, and
--- what follows them is what a stop may leave.
+-- A file can be gone on with: it doesn't begin with bytes of another kind, its pages (RFC 3533, section 6) are links, one
+-- after the other (section 4), that hold a recording, and what follows them is what a stop may leave.
 pub record CanGoOn (contents : List ℕ) : Type 0 where
   pub own : IsForeign (front_of contents) → ⊥
   pub end : ℕ

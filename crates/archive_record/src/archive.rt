@@ -193,7 +193,8 @@ impl<D: Disk + Drop, F: Folder<File = D> + Drop> Archive<D, F> {
         }
     }
 
-    /// Takes one step over what has been read of the input. If there is no file to record into the input has ended.
+    /// Takes one step over what has been read of the input. If there is no file to record into, nothing is taken, and it
+    /// answers as at the input's end: `begin_if_due` makes one.
     ///
     /// After `Ok`, if the disk has failed, call `recover`. After a fault take no further step.
     pub fn step<B: Beside>(

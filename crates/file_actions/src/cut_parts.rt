@@ -144,7 +144,7 @@ impl<'a> Asked<'a> {
             or_memory(serials.go_on(streams.as_slice()))?;
         }
         let mut ahead = Vec::new(self.rt.alloc());
-        // A stretch is read by larger pieces.
+        // A stretch reads large pieces by itself.
         if part.cut.is_some() {
             or_memory(ahead.resize(AHEAD, 0))?;
         }

@@ -38,7 +38,8 @@ pub(crate) struct Asked<'a> {
 #[derive(Clone, Copy)]
 pub(crate) enum Stop {
     Failed(Fault),
-    /// Pages of a file are damaged: such files are left out, so all are looked at anew.
+    /// Pages of a file are damaged, or can't be read. All files are looked at anew then, and those that can't be cut are
+    /// left out.
     Damaged,
 }
 
