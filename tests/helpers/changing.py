@@ -4,6 +4,11 @@
 `changing.py hears PROGRAM WORK` has listeners join before and while three sources send, over files of few bytes: whoever
 was there first hears every file as it is, and who joins later hears each file after the one that it joined in.
 `changing.py fetches PROGRAM WORK` has clients ask for a long file that ends before they read what they get.
+`changing.py lags PROGRAM WORK` has a listener that reads nothing while files of several megabytes come and go: it hears
+each of them then.
+`changing.py shares PROGRAM WORK` has forty clients read a long file that has ended as fast as it comes: others are
+answered meanwhile.
+`changing.py limits PROGRAM WORK` has as many connections as may be, most of which read a file that has ended.
 `changing.py fails PROGRAM LIBRARY WORK` has each device call fail once, by the library of failing.c, while two sources
 come one after the other: one of them may lose something, and is told so.
 `changing.py kills PROGRAM WORK COUNT` kills the station again and again over one growing folder while a source sends and
@@ -13,6 +18,7 @@ Each prints a line for what is wrong, and last how much was tried; the status is
 """
 import os
 import random
+import select
 import socket
 import struct
 import sys
@@ -21,6 +27,7 @@ import time
 
 from archiving import found, stream
 from filing import files_of, wrong
+from pages import page
 from stationing import BASIC, Listener, Station, Told, faults_heard, is_whole, read_all, request, send_until_killed, until
 
 
@@ -133,6 +140,125 @@ def fetches(program, work):
     return told.end()
 
 
+def long_stream(seed, count):
+    """A stream of so many pages of 65 kB, which take less time to be made than short ones."""
+    yield page(2, 0, 77, 0, [8], struct.pack("<II", seed, 0))
+    for sequence in range(1, count):
+        body = struct.pack("<II", seed, sequence) + bytes(255 * 254 - 8)
+        yield page(0, sequence, 77, sequence, [255] * 254 + [0], body)
+
+
+def put(station, told, pages):
+    """Sends these pages as one source."""
+    body = b"".join(pages)
+    answer = station.ask(request(b"PUT", BASIC, b"Content-Length: %d" % len(body)), body)
+    told.check("a source", b" 200 " in answer[:20], answer)
+
+
+def slow(station, head):
+    """A connection that asks and reads the front of its answer, and nothing more for now."""
+    one = station.connect()
+    one.setsockopt(socket.SOL_SOCKET, socket.SO_RCVBUF, 65536)
+    one.sendall(head)
+    return one
+
+
+LIVE = b"GET /live HTTP/1.0\r\n\r\n"
+
+
+def lags(program, work):
+    told = Told()
+    folder = made(work, "lags")
+    station = Station(program, folder, "--most-bytes", "7000000")
+    one = slow(station, LIVE)
+    put(station, told, long_stream(61, 400))
+    files = pages_of(folder)
+    told.check("files change", len(files) > 3, len(files))
+    got = b""
+    wanted = sum(len(data) for data in files)
+    one.settimeout(20)
+    try:
+        while len(got.partition(b"\r\n\r\n")[2]) < wanted and (piece := one.recv(1 << 20)):
+            got += piece
+    except TimeoutError:
+        pass
+    got = got.partition(b"\r\n\r\n")[2]
+    told.check("each file is heard", got == b"".join(files), len(got), wanted)
+    err = station.stop()
+    told.check("standard error", b"fault" not in err and b"lost" not in err, err[-300:])
+
+    return told.end()
+
+
+def read_whole(some):
+    """Reads all that comes for these connections, as fast as it comes. Returns how much that was."""
+    room, count = bytearray(1 << 20), 0
+    while some:
+        for one in select.select(some, [], [], 20)[0]:
+            more = one.recv_into(room)
+            count += more
+            if not more:
+                some.remove(one)
+    return count
+
+
+def shares(program, work):
+    told = Told()
+    folder = made(work, "shares")
+    station = Station(program, folder, "--most-bytes", "20000000")
+    put(station, told, long_stream(71, 400))
+    length = station.committed()
+    readers = [slow(station, b"GET /link/0 HTTP/1.0\r\n\r\n") for _ in range(40)]
+    time.sleep(0.5)
+    put(station, told, stream(72, 3))
+    told.check("the file has changed", len(files_of(folder)) == 2)
+    children = []
+    for at in range(4):
+        child = os.fork()
+        if not child:
+            os._exit(0 if read_whole(readers[at * 10 : at * 10 + 10]) > 10 * length else 1)
+        children.append(child)
+    answers, longest = 0, 0
+    begun = time.monotonic()
+    left = list(children)
+    while left:
+        asked = time.monotonic()
+        station.ask(b"GET /status HTTP/1.0\r\n\r\n")
+        longest = max(longest, time.monotonic() - asked)
+        answers += 1
+        for child in left[:]:
+            ended, status = os.waitpid(child, os.WNOHANG)
+            if ended:
+                told.check("all is read", status == 0)
+                left.remove(child)
+    took = time.monotonic() - begun
+    told.check("others are answered meanwhile", answers > 5, answers, longest, took)
+    station.stop()
+    return told.end()
+
+
+def limits(program, work):
+    told = Told()
+    folder = made(work, "limits")
+    station = Station(program, folder, "--most-bytes", "7000000", "--listeners", "4")
+    some = [slow(station, LIVE) for _ in range(3)]
+    time.sleep(0.2)
+    put(station, told, long_stream(81, 200))
+    told.check("the file has changed", len(files_of(folder)) == 2)
+    # The source's connection is gone soon.
+    time.sleep(0.5)
+    some.append(slow(station, LIVE))
+    front = some[-1].recv(100)
+    told.check("there is one place more", b" 200 " in front[:20], front)
+    got = station.ask(LIVE)
+    told.check("those who read a file that has ended count", b" 503 " in got[:20], got[:100])
+    for one in some:
+        one.close()
+    told.check("there are places again", until(lambda: b" 200 " in station.ask(b"GET / HTTP/1.0\r\n\r\n")[:20]))
+    station.stop()
+    return told.end()
+
+
 def fails(program, library, work):
     told = Told()
     mark = os.path.join(work, "met")
@@ -214,9 +340,9 @@ def main():
     what, program, *more, work = sys.argv[1:] if sys.argv[1] != "kills" else [*sys.argv[1:3], sys.argv[4], sys.argv[3]]
     if what == "kills":
         return kills(program, work, int(more[0]))
-    if what == "fails":
+    if more:
         return fails(program, more[0], work)
-    return {"hears": hears, "fetches": fetches}[what](program, work)
+    return {"hears": hears, "fetches": fetches, "lags": lags, "shares": shares, "limits": limits}[what](program, work)
 
 
 if __name__ == "__main__":

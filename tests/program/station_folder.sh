@@ -24,8 +24,9 @@ check "standard input: all are ended" run verify "$work/input"
 
 mkdir "$work/changing"
 cc -O2 -shared -fPIC -D_GNU_SOURCE -o "$work/failing.so" "$here/failing.c" || exit 1
-check "changing.py hears" timeout 170 python3 "$here/changing.py" hears "$program" "$work/changing"
-check "changing.py fetches" timeout 170 python3 "$here/changing.py" fetches "$program" "$work/changing"
+for what in hears fetches lags shares limits; do
+    check "changing.py $what" timeout 170 python3 "$here/changing.py" "$what" "$program" "$work/changing"
+done
 check "changing.py fails" timeout 300 python3 "$here/changing.py" fails "$program" "$work/failing.so" "$work/changing"
 # A hundred kills at most: they belong to ./check --all.
 kills=${KILLS:-20}

@@ -39,6 +39,11 @@ pub struct Keeper<'a> {
 }
 
 impl<'a> Keeper<'a> {
+    /// The folder, with a slash at the end; empty if one file is recorded into.
+    pub fn folder(&self) -> &'a str {
+        self.folder
+    }
+
     /// Nothing was told yet. The folder's path has a slash at its end.
     pub fn new(rt: &'a HostRuntime, folder: &'a str, told: Told<'a>) -> Keeper<'a> {
         Keeper {

@@ -28,6 +28,6 @@ mod verifying;
 pub use cutting::cut;
 pub use files::{links, split};
 pub use finishing::finish;
-pub use listing::list;
+pub use listing::{list, list_text};
 pub use salvaging::salvage;
 pub use verifying::verify;

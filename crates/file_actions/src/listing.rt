@@ -52,35 +52,60 @@ pub fn list(
         links,
     };
     let seen = asked.seen()?;
-    asked.list_files(seen.files.as_slice())
+    tell_twice(rt, &seen);
+    let mut lines = Vec::new(rt.alloc());
+    asked.list_files(&seen, true, &mut lines)?;
+    write_all(rt, &mut lines)
+}
+
+/// The lines of all files of the archive in the folder, and of the gaps between them, as `list` writes them.
+///
+/// It is `File` if the folder can't be read, and `Memory` if memory is refused.
+pub fn list_text(rt: &HostRuntime, folder: &str) -> Result<Vec<u8>, Fault> {
+    let asked = Asked {
+        rt,
+        folder,
+        since: None,
+        until: None,
+        links: false,
+    };
+    let seen = asked.seen()?;
+    let mut lines = Vec::new(rt.alloc());
+    asked.list_files(&seen, false, &mut lines)?;
+    Ok(lines)
+}
+
+/// The numbers that stand twice are told on standard error.
+fn tell_twice(rt: &HostRuntime, seen: &Seen) {
+    for number in seen.twice.as_slice() {
+        let _ = write_whole(&mut rt.stderr(), twice_line(*number).as_slice());
+    }
 }
 
 impl<'a> Asked<'a> {
-    /// The files of the folder. The numbers that stand twice are told on standard error.
+    /// The files of the folder.
     fn seen(&self) -> Result<Seen, Fault> {
-        let seen = match folder(self.rt, self.folder) {
-            Ok(seen) => seen,
-            Err(fault) => return Err(fault_of(fault)),
-        };
-        for number in seen.twice.as_slice() {
-            let _ = write_whole(&mut self.rt.stderr(), twice_line(*number).as_slice());
+        match folder(self.rt, self.folder) {
+            Ok(seen) => Ok(seen),
+            Err(fault) => Err(fault_of(fault)),
         }
-        Ok(seen)
     }
 
-    fn list_files(&self, files: &[Listed]) -> Result<(), Fault> {
-        let mut lines = Vec::new(self.rt.alloc());
+    /// Adds the lines of the files. They are written as they come, if that is asked for.
+    fn list_files(&self, seen: &Seen, is_written: bool, lines: &mut Vec<u8>) -> Result<(), Fault> {
         let mut before: Option<Told> = None;
         let now = now(self.rt);
-        let mut rest = files;
+        let mut rest = seen.files.as_slice();
         while let Some((file, others)) = rest.split_first() {
-            if let Some(told) = self.list_file(file, others.first(), now, before, &mut lines)? {
+            if let Some(told) = self.list_file(file, others.first(), now, before, lines)? {
                 before = Some(told);
-                write_many(self.rt, &mut lines)?;
+                if is_written {
+                    write_many(self.rt, lines)?;
+                }
             }
             rest = others;
         }
-        write_all(self.rt, &mut lines)
+        Ok(())
     }
 
     /// Adds the lines of a file, if it is asked for.

@@ -145,6 +145,20 @@ impl<D: Disk + Drop, F: Folder<File = D> + Drop> Filed<F> {
         self.name
     }
 
+    /// The file with this number. None if there is no such file, or more than one.
+    pub fn named(&self, number: u64) -> Option<FileName> {
+        let mut found = None;
+        for name in self.rotation.names() {
+            if name.number == number {
+                if found.is_some() {
+                    return None;
+                }
+                found = Some(*name);
+            }
+        }
+        found
+    }
+
     /// Begins the next file, if something has come that is recorded, and the newest is over. It returns what was answered when
     /// the open link began again in it, if it was changed.
     ///
@@ -223,7 +237,8 @@ impl<D: Disk + Drop, F: Folder<File = D> + Drop> Filed<F> {
             stations,
             goes_on,
             serials.as_slice(),
-            false,
+            // What couldn't be kept at the end of the file before is lost.
+            ended.is_err(),
             clocks.day,
             beside,
         )?;

@@ -1,10 +1,10 @@
 //! The station whose file is recorded, and those that serve files that have ended to whoever reads them still.
-ghost use Rattle.std.specs.Prelude.{◌≡◌, ◌<◌, ◌^◌, length, IfSome};
+ghost use Rattle.std.specs.Prelude.{◌≡◌, ◌<◌, ◌^◌, length, IfSome, ◌↔◌, ◌-◌, ◌≤◌, true};
 ghost use Rattle.station_files.specs.Seat.{token_of};
 ghost use Rattle.station_files.specs.declared.seats.Seat.{Seat as SeatOf};
 
 use disk_model::Disk;
-use station::{Client, Memory, Station};
+use station::{Client, Memory, Station, Unaccepted};
 use station_hub::LiveHub;
 use std::alloc::Global;
 
@@ -25,7 +25,27 @@ const STATIONS: u64 = 1 << 31;
 /// For how many milliseconds those who read files that have ended are waited for at the end.
 const MOST_ENDING: u64 = 60_000;
 
+/// The number of a station that no file has: who fetches files has a seat there.
+const FETCHES: u64 = STATIONS - 1;
+
 impl Seat {
+    /// The seat of a connection that fetches a file.
+    pub fn of_fetch(key: usize) -> Seat
+        ensures { (result.station ≡ 2 ^ 31 - 1) × (result.key ≡ key) }
+    {
+        Seat {
+            station: FETCHES,
+            key,
+        }
+    }
+
+    /// Whether it is a seat of those who fetch files.
+    pub fn is_fetch(self) -> bool
+        ensures { (result ≡ true) ↔ (self.station ≡ 2 ^ 31 - 1) }
+    {
+        self.station == FETCHES
+    }
+
     /// A number that tells the seat, and is less than 2^63.
     pub fn token(self) -> usize
         ensures told { result ≡ token_of self }
@@ -114,6 +134,18 @@ fn take_reader<D: Disk + Drop>(station: &mut Station<D>, key: usize) -> Option<C
     }
 }
 
+/// How many of these stations, from the first on, have no connection.
+fn unread<D: Disk + Drop>(past: &[Past<D>]) -> usize
+    ensures { result ≤ length past.now }
+{
+    for at in 0..past.len() {
+        if past[at].station.connections() > 0 {
+            return at;
+        }
+    }
+    past.len()
+}
+
 impl<D: Disk + Drop> Stations<D> {
     /// One station.
     pub fn new(alloc: Global, newest: Station<D>) -> Stations<D>
@@ -174,20 +206,48 @@ impl<D: Disk + Drop> Stations<D> {
         turns
     }
 
-    /// The connection whose turn it is, if one has something to do.
-    pub fn next_turn(&mut self) -> Option<Seat> {
-        for at in 0..self.past.len() {
-            if let Some(past) = self.past.get_mut(at) {
-                if let Some(key) = past.station.next_turn() {
-                    return Some(Seat {
-                        station: past.number,
-                        key,
-                    });
-                }
-            }
+    /// How many stations there are: the newest, and those over files that have ended.
+    pub fn count(&self) -> usize {
+        self.past.len().saturating_add(1)
+    }
+
+    /// How many connections have a turn at one of the stations: the newest is at 0, and those over files that have ended
+    /// follow, the oldest first.
+    pub fn turns_at(&self, at: usize) -> usize {
+        if at == 0 {
+            return self.newest.turns();
         }
-        let key = self.newest.next_turn()?;
-        Some(Seat { station: 0, key })
+        match self.past.get(at.saturating_sub(1)) {
+            Some(past) => past.station.turns(),
+            None => 0,
+        }
+    }
+
+    /// The connection whose turn it is at one of them, if one has something to do there.
+    pub fn next_turn_at(&mut self, at: usize) -> Option<Seat> {
+        if at == 0 {
+            let key = self.newest.next_turn()?;
+            return Some(Seat { station: 0, key });
+        }
+        let past = self.past.get_mut(at.saturating_sub(1))?;
+        let key = past.station.next_turn()?;
+        Some(Seat {
+            station: past.number,
+            key,
+        })
+    }
+
+    /// A connection was made: the newest takes it, as [`Station::accepted`] has it. There may be so many in all: those who
+    /// read files that have ended count as the others do, and so do so many that are elsewhere.
+    pub fn accepted(
+        &mut self,
+        most: usize,
+        elsewhere: usize,
+        now: u64,
+    ) -> Result<usize, Unaccepted> {
+        let others = self.readers().saturating_add(elsewhere);
+        self.newest.allow(most.saturating_sub(others));
+        self.newest.accepted(now)
     }
 
     /// How many milliseconds may be waited, if nothing comes, until there is something to do.
@@ -223,7 +283,7 @@ impl<D: Disk + Drop> Stations<D> {
     }
 
     /// Whether those who read files that have ended have had a minute since the newest comes to its end.
-    fn has_waited(&self, now: u64) -> bool {
+    pub fn has_waited(&self, now: u64) -> bool {
         match self.newest.ending() {
             Some(since) => MOST_ENDING <= now.saturating_sub(since),
             None => false,
@@ -247,9 +307,10 @@ impl<D: Disk + Drop> Stations<D> {
     }
 
     /// The file that was recorded has ended, and `live` has the next one: it is recorded and served from now on. Who reads
-    /// the one before goes on to, at a station of its own.
+    /// the one before goes on to, at a station of its own. It has one also if nobody reads it, while an older one is read:
+    /// who hears that comes to this one next.
     pub fn change(&mut self, live: LiveHub<D>) {
-        if !self.is_read() {
+        if !self.is_read() && self.past.is_empty() {
             self.newest.change(live);
             return;
         }
@@ -316,9 +377,10 @@ impl<D: Disk + Drop> Stations<D> {
         past.station.leave(key)
     }
 
-    /// A file that has ended is closed once nobody reads it.
+    /// A file that has ended is closed once nobody reads it or an older one.
     pub fn close_unread(&mut self) {
-        self.past.retain(|past| past.station.connections() > 0);
+        let count = unread(self.past.as_slice());
+        self.past.drain(..count);
     }
 
     /// The moves since they were taken up last, in their order.

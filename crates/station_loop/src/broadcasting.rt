@@ -1,10 +1,12 @@
 //! A file, or the files of a folder, that is recorded and served, for any number of connections.
 ghost use Rattle.archive_record.specs.Files.{AllKept};
 
+use crate::fetching::Listed;
 use crate::filing::{Files, OneFile, Recorded, SystemReaders, fault_of};
 use crate::running::Running;
 use crate::sockets::Sockets;
 use archive_actions::{Filing, Keeper, granted, is_folder, lock_folder, now, with_slash};
+use archive_fetch::Fetches;
 use archive_folder::{Folder, SystemFolder};
 use archive_record::{ArchiveNames, Rules};
 use disk_model::Disk;
@@ -65,7 +67,7 @@ fn file_station(
     let hub = hear_file(rt, options.path, options.listeners as usize)?;
     let station = station_over(rt, hub, asked)?;
     let keeper = Keeper::new(rt, "", Told::new(rt, false, station.hub().end()));
-    let ended = run_at(rt, station, keeper, OneFile, address, start, options.log)?;
+    let ended = run_at(rt, station, keeper, OneFile, address, start, options)?;
     // The connections are gone.
     close_hub(ended.hub, ended.ran)
 }
@@ -91,7 +93,7 @@ fn folder_station(
     let rules = options.filing.rules(1024);
     let (hub, recorded) = open_folder(rt, files, &mut keeper, readers, rules, asked.most)?;
     let station = station_over(rt, hub, asked)?;
-    let ended = run_at(rt, station, keeper, recorded, address, start, options.log)?;
+    let ended = run_at(rt, station, keeper, recorded, address, start, options)?;
     ended.ran?;
     let mut keeper = ended.keeper;
     let closed = ended.recorded.close(ended.hub, options.seal, &mut keeper);
@@ -133,16 +135,20 @@ fn run_at<'a, D: Disk + Drop, R: Recorded<D> + Drop>(
     recorded: R,
     address: SocketAddr,
     start: Instant,
-    log: bool,
+    options: Options<'_>,
 ) -> Result<Finished<'a, D, R>, Fault> {
     let sockets = listen(rt, address)?;
+    let fetches = granted(Fetches::new(rt.alloc()))?;
     let mut running = Running {
         rt,
         keeper,
         recorded,
-        log: Log::new(rt.alloc(), log, station.counts()),
+        log: Log::new(rt.alloc(), options.log, station.counts()),
+        most: options.listeners as usize,
         stations: Stations::new(rt.alloc(), station),
         sockets,
+        fetches,
+        listed: Listed::new(Vec::new(rt.alloc())),
         start,
         now: 0,
     };

@@ -1,12 +1,15 @@
 //! What a station is recorded into: a file, or the files of a folder.
 
+use archive_fetch::FileFacts;
 use archive_folder::{FileName, Folder, SystemFile};
 use archive_names::Kind;
+use archive_reading::Prefix;
 use archive_record::{ArchiveFault, Beside, text_of};
 use disk_model::{Disk, FileDisk};
 use fault_lines::Fault;
 use gate_file::OpenFault;
 use import_record::Answered;
+use ogg_page::PageSource;
 use serve_hub::Hub;
 use station::Done;
 use station_files::{Clocks, Filed, Readers, Stations};
@@ -33,6 +36,13 @@ pub trait Recorded<D: Disk> {
         clocks: Clocks,
         beside: &mut B,
     ) -> Result<Done, Fault>;
+
+    /// Whether it is a folder, whose files can be fetched.
+    fn is_folder(&self) -> bool;
+
+    /// The file of the folder with this number, to be read, and how it stands: all of it that is committed, by the hub over
+    /// the newest. None if there is no such file, or more than one.
+    fn file(&mut self, number: u64, hub: &Hub<D>) -> Option<(FileFacts, Prefix<D>)>;
 }
 
 /// One file.
@@ -57,6 +67,14 @@ impl<D: Disk> Recorded<D> for OneFile {
         _beside: &mut B,
     ) -> Result<Done, Fault> {
         Ok(done)
+    }
+
+    fn is_folder(&self) -> bool {
+        false
+    }
+
+    fn file(&mut self, _number: u64, _hub: &Hub<D>) -> Option<(FileFacts, Prefix<D>)> {
+        None
     }
 }
 
@@ -109,6 +127,27 @@ impl<D: Disk + Drop, F: Folder<File = D> + Drop, R: Readers<D> + Drop> Recorded<
             Ok(done) => Ok(done),
             Err(fault) => Err(fault_of(fault)),
         }
+    }
+
+    fn is_folder(&self) -> bool {
+        true
+    }
+
+    fn file(&mut self, number: u64, hub: &Hub<D>) -> Option<(FileFacts, Prefix<D>)> {
+        let name = self.filed.named(number)?;
+        let whole = Prefix::whole(self.readers.open(name)?).ok()?;
+        let has_ended = name != self.filed.name();
+        let bytes = if has_ended {
+            whole.end()
+        } else {
+            whole.end().min(hub.end())
+        };
+        let file = FileFacts {
+            number,
+            bytes,
+            has_ended,
+        };
+        Some((file, whole.up_to(bytes)))
     }
 }
 

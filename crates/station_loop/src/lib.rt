@@ -8,6 +8,7 @@
 #![tactic(auto)]
 
 mod broadcasting;
+mod fetching;
 mod filing;
 mod refusing;
 mod running;

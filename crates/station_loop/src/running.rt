@@ -1,9 +1,11 @@
 //! A station that runs: round after round bytes go between its sockets and the machine, which decides everything.
 
+use crate::fetching::Listed;
 use crate::filing::Recorded;
 use crate::sockets::{Connection, Sockets, trouble};
 use crate::telling::{seconds, tell_done};
 use archive_actions::{Keeper, now};
+use archive_fetch::Fetches;
 use disk_model::Disk;
 use fault_lines::Fault;
 use import_record::RecordFault;
@@ -27,7 +29,12 @@ pub struct Running<'a, D: Disk + Drop, R: Recorded<D> + Drop> {
     /// What it is recorded into.
     pub recorded: R,
     pub sockets: Sockets,
+    /// Who fetches files of the folder, and the list of these.
+    pub fetches: Fetches<D>,
+    pub listed: Listed,
     pub log: Log,
+    /// The greatest number of connections.
+    pub most: usize,
     pub start: Instant,
     // when its round began, in milliseconds since its start
     pub now: u64,
@@ -54,7 +61,7 @@ impl<D: Disk + Drop, R: Recorded<D> + Drop> Running<'_, D, R> {
                 return Err(Fault::Net);
             }
             busy = self.round()?;
-            if self.stations.is_finished(self.now) {
+            if self.is_finished() {
                 break;
             }
         }
@@ -67,11 +74,27 @@ impl<D: Disk + Drop, R: Recorded<D> + Drop> Running<'_, D, R> {
             0
         } else {
             let now = self.microseconds()? / 1000;
-            self.stations.until_next(now)
+            self.until_next(now)
         };
-        self.sockets.wait(&mut self.stations, most)?;
+        self.sockets
+            .wait(&mut self.stations, &mut self.fetches, most)?;
         self.now = self.microseconds()? / 1000;
         Ok(())
+    }
+
+    /// How many milliseconds may be waited, if nothing comes, until there is something to do.
+    fn until_next(&self, now: u64) -> u64 {
+        if self.fetches.turns() > 0 {
+            0
+        } else {
+            self.stations.until_next(now)
+        }
+    }
+
+    /// Whether the station has come to its end. Whoever fetches a file then gets the rest of it, within a minute.
+    fn is_finished(&self) -> bool {
+        self.stations.is_finished(self.now)
+            && (self.fetches.connections() == 0 || self.stations.has_waited(self.now))
     }
 
     /// Takes what has come, records it, and sends what there is to send. It returns whether more can be done at once.
@@ -80,6 +103,7 @@ impl<D: Disk + Drop, R: Recorded<D> + Drop> Running<'_, D, R> {
         self.take_input();
         let recording = self.record()?;
         self.serve();
+        self.serve_fetches();
         self.tell();
         Ok(crowded || recording)
     }
@@ -105,7 +129,8 @@ impl<D: Disk + Drop, R: Recorded<D> + Drop> Running<'_, D, R> {
 
     /// A connection was accepted. If there are too many it is told so, and closed.
     fn add(&mut self, connection: Connection) {
-        let Ok(key) = self.stations.newest_mut().accepted(self.now) else {
+        let elsewhere = self.fetches.connections();
+        let Ok(key) = self.stations.accepted(self.most, elsewhere, self.now) else {
             let _ = (&connection.stream).write(FULL);
             let _ = connection.stream.shutdown(Shutdown::Write);
             self.log.refused(connection.address, seconds(self.rt));
@@ -119,10 +144,18 @@ impl<D: Disk + Drop, R: Recorded<D> + Drop> Running<'_, D, R> {
         }
     }
 
-    /// Gives each connection that has something to do one turn.
+    /// Gives each connection that has something to do one turn, at one station after the other: the newest comes first.
     fn serve(&mut self) {
-        for _ in 0..self.stations.turns() {
-            let Some(seat) = self.stations.next_turn() else {
+        for at in 0..self.stations.count() {
+            self.serve_at(at);
+        }
+    }
+
+    /// Gives each connection that has something to do at this station one turn. Who has another one at once waits for the
+    /// next round.
+    fn serve_at(&mut self, at: usize) {
+        for _ in 0..self.stations.turns_at(at) {
+            let Some(seat) = self.stations.next_turn_at(at) else {
                 return;
             };
             self.turn(seat);
@@ -145,16 +178,32 @@ impl<D: Disk + Drop, R: Recorded<D> + Drop> Running<'_, D, R> {
 
     /// Reads and writes once, and says what becomes of the connection.
     fn move_bytes(&mut self, seat: Seat) -> Option<After> {
+        if self.stations.at(seat)?.reads(seat.key) {
+            self.read(seat);
+        }
         let connection = self.sockets.connections.get(&seat.token())?;
         let station = self.stations.at(seat)?;
         let buffer = self.sockets.buffer.as_mut_slice();
-        if station.reads(seat.key) {
-            connection.read(station, seat.key, buffer, self.now);
-        }
         if station.writes(seat.key) {
             connection.write(station, seat.key, buffer, self.now);
         }
         Some(station.turned(seat.key, self.now))
+    }
+
+    /// Reads once. Whoever asks for something of the folder has another seat then.
+    fn read(&mut self, seat: Seat) {
+        let Some(connection) = self.sockets.connections.get(&seat.token()) else {
+            return;
+        };
+        let read = (&connection.stream).read(self.sockets.buffer.as_mut_slice());
+        let Some(station) = self.stations.at(seat) else {
+            return;
+        };
+        match read {
+            Ok(0) => station.peer_ended(seat.key),
+            Ok(count) => self.received(seat, count),
+            Err(error) => station.read_failed(seat.key, trouble(&error)),
+        }
     }
 
     /// The connection is closed, and told in the log.
@@ -333,6 +382,7 @@ impl<D: Disk + Drop, R: Recorded<D> + Drop> Running<'_, D, R> {
             let line = station_line(self.stations.newest().shown());
             self.keeper.told.show_other(line.as_slice());
             self.stations.close_unread();
+            self.fetches.look(self.now);
         }
     }
 }

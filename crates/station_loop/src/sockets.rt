@@ -1,5 +1,6 @@
 //! The sockets of a station, and standard input: the system tells when they have something.
 
+use archive_fetch::Fetches;
 use disk_model::Disk;
 use mio::net::{TcpListener, TcpStream};
 use mio::unix::SourceFd;
@@ -7,7 +8,7 @@ use mio::{Events, Interest, Poll, Token};
 use station::{Station, Trouble};
 use station_files::{Move, Seat, Stations};
 use std::collections::HashMap;
-use std::io::{self, ErrorKind, IsTerminal, Read, Write};
+use std::io::{self, ErrorKind, IsTerminal, Write};
 use std::net::{Shutdown, SocketAddr};
 use std::time::Duration;
 
@@ -66,6 +67,7 @@ impl Sockets {
     pub fn wait<D: Disk + Drop>(
         &mut self,
         stations: &mut Stations<D>,
+        fetches: &mut Fetches<D>,
         most: u64,
     ) -> io::Result<()> {
         let most = Some(Duration::from_millis(most));
@@ -79,7 +81,11 @@ impl Sockets {
                 Token(INPUT) => self.has_input = !self.left,
                 Token(token) => {
                     let seat = Seat::of_token(token);
-                    stations.wake(seat, event.is_readable(), event.is_writable());
+                    if seat.is_fetch() {
+                        fetches.wake(seat.key, event.is_readable(), event.is_writable());
+                    } else {
+                        stations.wake(seat, event.is_readable(), event.is_writable());
+                    }
                 }
             }
         }
@@ -168,21 +174,6 @@ pub struct Connection {
 }
 
 impl Connection {
-    /// Reads once.
-    pub fn read<D: Disk + Drop>(
-        &self,
-        station: &mut Station<D>,
-        key: usize,
-        buffer: &mut [u8],
-        now: u64,
-    ) {
-        match (&self.stream).read(buffer) {
-            Ok(0) => station.peer_ended(key),
-            Ok(count) => station.received(key, &buffer[..count], now),
-            Err(error) => station.read_failed(key, trouble(&error)),
-        }
-    }
-
     /// Writes once, if there is something to send.
     pub fn write<D: Disk + Drop>(
         &self,

@@ -1,0 +1,4 @@
+mod Numbers
+mod Placed
+mod Ranges
+mod Tags

@@ -1,0 +1,21 @@
+-- What is put in the place of a value that was found under a key.
+use Rattle.std.proofs.Common.{◌≡◌, ◌<◌, ℕ, Some, None, length, sym, ◌∙◌, inl, inr}
+use Rattle.std.proofs.lemmas.Bool.Decides.{leb_tells}
+use Rattle.std.proofs.lemmas.List.{get_or_past, get_or-set_same}
+use Rattle.slab.specs.Slab.{Slab, get, with_value}
+
+module _ {X : Type 0} where
+  pub same : (one other : X) → Some one ≡ Some other → one ≡ other
+  same one other e = cc
+
+  none_is_none : (value : X) → None ≡ Some value → ⊥
+  none_is_none value e = cc
+
+  is_inside : (slots : Slab X) (key : ℕ) (value : X) → get slots key ≡ Some value → key < length slots.slots
+  is_inside slots key value is = elim (leb_tells (length slots.slots) key) [
+    | inl past ↦ absurd (none_is_none value (sym (get_or_past slots.slots key None past.1) ∙ is))
+    | inr inside ↦ inside.1
+  ]
+
+  pub placed : (slots : Slab X) (key : ℕ) (old new : X) → get slots key ≡ Some old → get (with_value slots key new) key ≡ Some new
+  placed slots key old new is = get_or-set_same slots.slots key (Some new) None (is_inside slots key old is)

@@ -1,0 +1,4 @@
+pub mod Wishes
+pub mod Replies
+pub mod Heads
+pub mod Bodies

@@ -1,0 +1,9 @@
+#!/usr/bin/env bash
+# A station over a folder: its files are listed, and fetched by their numbers.
+. "$(dirname "$0")/../helpers/common.bash"
+
+mkdir "$work/fetching"
+check "fetching.py answers" timeout 170 python3 "$here/fetching.py" answers "$program" "$work/fetching"
+check "fetching.py grows" timeout 170 python3 "$here/fetching.py" grows "$program" "$work/fetching"
+check "fetching.py goes" timeout 170 python3 "$here/fetching.py" goes "$program" "$work/fetching"
+finish
