@@ -127,6 +127,10 @@ impl Client {
         ensures ok { OnOk result (self.new ≡ told text.now self.old) }
         ensures err { OnErr result (self.new ≡ memory_refused self.old) }
     {
+        if self.unsent().is_empty() {
+            self.rest.clear();
+            self.sent = 0;
+        }
         self.grower.append(&mut self.rest, text)
     }
 

@@ -1,5 +1,6 @@
 //! How long is waited for a connection.
 ghost use Rattle.std.specs.Prelude.{◌≡◌};
+ghost use Rattle.std.specs.Option.{is_some};
 ghost use Rattle.serve_clients.specs.Patience.{is_overdue, is_refused, patience};
 
 use crate::client::{Client, Stage};
@@ -17,7 +18,7 @@ const SENDS: u64 = 30_000;
 /// For how many milliseconds a peer may take no byte of what is to be sent: of what is recorded, or of its last bytes.
 const TAKES: u64 = 60_000;
 
-/// The same of a response over the file. Whoever plays it may have stopped for a while.
+/// The same of a response over the file, and of what was recorded before. Whoever plays it may have stopped for a while.
 const RESTS: u64 = 600_000;
 
 /// For how many milliseconds a peer that was told the end may take until it closes.
@@ -25,7 +26,7 @@ const CLOSES: u64 = 10_000;
 
 /// How long is waited for this connection; none if it may take as long as it wants.
 fn patience(client: &Client) -> Option<u64>
-    ensures { result ≡ patience client.now.stage client.now.idle }
+    ensures { result ≡ patience client.now.stage client.now.idle (is_some client.now.listener) }
 {
     match client.stage {
         Stage::Asking | Stage::Offering | Stage::Waiting | Stage::Reading => Some(HEAD),
@@ -33,6 +34,7 @@ fn patience(client: &Client) -> Option<u64>
         Stage::Sending => Some(RESTS),
         Stage::Ending => Some(TAKES),
         Stage::Hearing if client.idle => None,
+        Stage::Hearing if client.listener.is_none() => Some(RESTS),
         Stage::Hearing => Some(TAKES),
         Stage::Closing => Some(CLOSES),
         Stage::Cut => Some(0),
