@@ -28,7 +28,8 @@ pub fn count_of(bytes: &[u8], len: usize, fields: &[HeaderSpan], wanted: &[u8]) 
     count
 }
 
-fn first_of_name<'b>(
+/// The value of the first field with this name. The spans are of the first `len` bytes of `bytes`.
+pub fn first_of_name<'b>(
     bytes: &'b [u8],
     len: usize,
     fields: &[HeaderSpan],

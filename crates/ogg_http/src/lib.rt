@@ -19,7 +19,8 @@ mod range;
 mod target;
 
 pub use answer::{Answer, Memory, response_head};
+pub use fields::first_of_name;
 pub use head::{HeadRead, Request, Verb, read_head};
 pub use laws::ranges_lie_inside;
 pub use range::{Ranged, range_of};
-pub use target::Resource;
+pub use target::{Resource, path_of};

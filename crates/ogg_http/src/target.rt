@@ -30,7 +30,9 @@ fn has_scheme(target: &[u8]) -> bool
     target.len() >= 7 && target[..7].eq_ignore_ascii_case(b"http://")
 }
 
-fn path_of(target: &[u8]) -> &[u8]
+/// The path of a target: what follows the authority of one in absolute form (RFC 9112, section 3.2.2), `/` if nothing
+/// does, and any other target as it is.
+pub fn path_of(target: &[u8]) -> &[u8]
     ensures { result.now ≡ path_of target.now }
 {
     if !has_scheme(target) {

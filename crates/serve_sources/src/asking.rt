@@ -21,7 +21,8 @@ pub enum Asks {
     File,
 }
 
-fn is_source(front: &[u8]) -> bool
+/// Whether a source's method comes first, and a space after it.
+pub fn is_source(front: &[u8]) -> bool
     ensures { result ≡ is_source front.now }
 {
     front.starts_with(b"PUT ") || front.starts_with(b"SOURCE ")
@@ -42,7 +43,8 @@ fn may_name_own(target: &[u8]) -> bool
     }
 }
 
-fn may_be_listener(front: &[u8]) -> bool
+/// Whether more bytes may make this a listener's method, and a space after it.
+pub fn may_be_listener(front: &[u8]) -> bool
     ensures { result ≡ may_be_listener front.now }
 {
     b"GET ".starts_with(front) || b"HEAD ".starts_with(front)

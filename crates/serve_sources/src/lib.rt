@@ -29,7 +29,7 @@ mod refused;
 mod reply;
 
 pub use answers::{FULL, LIVE};
-pub use asking::Asks;
+pub use asking::{Asks, is_source, may_be_listener};
 pub use body::{Body, BodyFault, Piece};
 pub use laws::{
     answers_are_these, answers_stay, basic_credentials_are_taken, bodies_are_taken_whole,
@@ -37,6 +37,6 @@ pub use laws::{
 };
 pub use offer::Offer;
 pub use outcome::Outcome;
-pub use own::OwnResource;
+pub use own::{OwnResource, may_have_scheme};
 pub use password::{Password, PasswordFault};
 pub use refused::Refused;

@@ -1,9 +1,9 @@
 //! The targets that a station answers itself.
 ghost use Rattle.std.specs.Prelude.{◌≡◌};
-ghost use Rattle.ogg_http.specs.Target.{first_slash, has_scheme, path_of};
+ghost use Rattle.ogg_http.specs.Target.{path_of};
 ghost use Rattle.serve_sources.specs.Own.{ends_path, is_at, may_be_at, may_be_own_path, may_be_own_target, may_have_scheme, own_at, own_of};
 
-use crate::places::place_of;
+use ogg_http::path_of;
 
 /// What a station answers itself. Each has its path, which a query may follow.
 #[derive(Clone, Copy, Debug, PartialEq, Eq)]
@@ -14,31 +14,6 @@ pub enum OwnResource {
     Player,
     /// How the station fares, in numbers: `/status`.
     Status,
-}
-
-fn first_slash(text: &[u8]) -> Option<usize>
-    ensures { result ≡ first_slash text.now }
-{
-    place_of(b'/', text)
-}
-
-fn has_scheme(target: &[u8]) -> bool
-    ensures { result ≡ has_scheme target.now }
-{
-    target.len() >= 7 && target[..7].eq_ignore_ascii_case(b"http://")
-}
-
-fn path_of(target: &[u8]) -> &[u8]
-    ensures { result.now ≡ path_of target.now }
-{
-    if !has_scheme(target) {
-        return target;
-    }
-    let rest = &target[7..];
-    match first_slash(rest) {
-        Some(slash) => &rest[slash..],
-        None => b"/",
-    }
 }
 
 fn ends_path(rest: &[u8]) -> bool
@@ -92,7 +67,8 @@ fn may_be_own_path(path: &[u8]) -> bool
         || may_be_at(b"/status", path)
 }
 
-fn may_have_scheme(target: &[u8]) -> bool
+/// Whether the target is the beginning of an absolute form (RFC 9112, section 3.2.2).
+pub fn may_have_scheme(target: &[u8]) -> bool
     ensures { result ≡ may_have_scheme target.now }
 {
     let count = target.len().min(7);
