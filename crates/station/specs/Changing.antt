@@ -7,7 +7,7 @@ use Rattle.import_record.specs.declared.answering.Answered.{Answered}
 use Rattle.serve_hub.specs.Running.{Answers, IsIn, Progress}
 use Rattle.serve_live.specs.Joined.{IsNew}
 use Rattle.serve_live.specs.Listening.{ListenerState}
-use Rattle.serve_clients.specs.Client.{ClientState}
+use Rattle.serve_clients.specs.Client.{ClientState, cut_for_memory}
 use Rattle.serve_clients.specs.Clients.{told_by}
 use Rattle.serve_clients.specs.Line.{new_line}
 use Rattle.station_hub.specs.declared.live_hub.LiveHub.{LiveHub}
@@ -15,6 +15,7 @@ use Rattle.station_hub.specs.declared.waking.Waking.{Waking}
 use Rattle.station_sources.specs.Beginning.{HasResumed}
 use Rattle.station_sources.specs.declared.air.OnAir.{OnAir}
 use Rattle.serve_clients.specs.declared.client.Stage.TheVariants.{Hearing}
+use Rattle.station.specs.Asked.{heard, moved}
 
 -- It has a session there, also if it was told all and is about to be closed, or hears what is recorded. The number of its
 -- session is another's elsewhere.
@@ -33,6 +34,10 @@ come client = record client { idle = false; line = new_line }
 -- and then its socket may have bytes, and room for some
 abbrev pub arrived : ClientState → ClientState
 arrived client = told_by true true (come client)
+
+-- bytes of its head are kept behind what has come before; or memory for them was refused
+pub record HoldsBack (bytes : List ℕ) (old new : ClientState) : Type 0 where
+  pub becomes : (new ≡ heard bytes old) ⊎ (new ≡ cut_for_memory (moved old))
 
 -- it hears a file from its first page on
 pub record HearsAnew (old new : ClientState) : Type 0 where

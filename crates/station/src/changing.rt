@@ -17,7 +17,7 @@ ghost use Rattle.import_record.specs.Running.{nothing};
 ghost use Rattle.import_record.specs.declared.answering.Answered.{Answered as AnsweredOf};
 ghost use Rattle.serve_hub.specs.Running.{IsIn, Progress};
 ghost use Rattle.station.specs.Spare.{is_another, is_spare};
-ghost use Rattle.station.specs.Changing.{BeginsAgain, HearsAnew, ReadsFile, anew, arrived, come};
+ghost use Rattle.station.specs.Changing.{BeginsAgain, HearsAnew, HoldsBack, ReadsFile, anew, arrived, come};
 ghost use Rattle.station_hub.specs.Giving.{has_got_all};
 ghost use Rattle.serve_live.specs.Boundaries.{place_to_join};
 ghost use Rattle.station_hub.specs.Live.{RecordsLive};
@@ -34,7 +34,7 @@ use import_record::{Answered, RecordFault, run_all};
 use serve_clients::{Client, Clients, Line, Stage};
 use serve_live::{JoinPlace, Listener};
 use slab::Slab;
-use station_hub::{LiveHub, Waking};
+use station_hub::{LiveHub, Waking, notice};
 use station_sources::OnAir;
 use std::alloc::Global;
 use std::io;
@@ -45,6 +45,16 @@ fn arrive(client: &mut Client)
 {
     client.idle = false;
     client.stands(Line::new());
+}
+
+/// Keeps bytes of a head behind what has come before. If memory for them is refused, the connection is cut.
+fn hold_back(client: &mut Client, bytes: &[u8])
+    ensures { HoldsBack bytes.now client.old client.new }
+{
+    notice(client, bytes);
+    if client.hear(bytes).is_err() {
+        client.go_to(Stage::Cut);
+    }
 }
 
 /// Gives a connection a key that is free.
@@ -236,6 +246,20 @@ impl<D: Disk + Drop> Station<D> {
         match client.stage {
             Stage::Asking => Some(client.head.as_slice()),
             _ => None,
+        }
+    }
+
+    /// Bytes of the head of this connection have come, and it isn't known yet by whom it is answered: they are kept behind
+    /// what has come before. If memory for them is refused, the connection is cut.
+    pub fn hold(&mut self, key: usize, bytes: &[u8])
+        ensures held { (client : ClientState) → get self.old.clients.slots key ≡ Some client → (after : ClientState)
+            × (get self.new.clients.slots key ≡ Some after) × HoldsBack bytes.now client after }
+        ensures none { get self.old.clients.slots key ≡ None → self.new ≡ self.old }
+        ensures others { OthersStay key self.old.clients self.new.clients }
+        ensures rest { self.new ≡ record self.old { clients = self.new.clients } }
+    {
+        if let Some(client) = self.clients.slots.get_mut(key) {
+            hold_back(client, bytes);
         }
     }
 
