@@ -1,5 +1,5 @@
 -- Spans of time that a person writes. Ours.
-use Rattle.std.specs.Prelude.{◌≡◌, ℕ, ◌*◌, ◌^◌, ◌<◌, List, [], ◌∷◌, ◌++◌, if◌then◌else◌, ◌==◌}
+use Rattle.std.specs.Prelude.{◌≡◌, ℕ, ◌*◌, ◌^◌, ◌<◌, List, [], ◌∷◌, ◌++◌, codes, if◌then◌else◌, ◌==◌}
 use Rattle.std.specs.Fmt.{decimal}
 
 -- the seconds of one s, m, h, d or w; any other letter has none
@@ -19,3 +19,7 @@ pub record IsSpan (text : List ℕ) (seconds : ℕ) : Type 0 where
   pub seconds_are : seconds ≡ number * seconds_in letter
   pub some : 0 < seconds
   pub fits : seconds < 2 ^ 64
+
+-- no span of time: what lies so far back is now
+abbrev pub nothing : List ℕ
+nothing = codes "0s"

@@ -3,13 +3,16 @@ ghost use Rattle.std.specs.Prelude.{◌≡◌, ◌≢◌, ◌∷◌, ◌+◌, �
 ghost use Rattle.jiff.specs.Words.{parse_timestamp, plain_zone};
 ghost use Rattle.jiff_core.specs.declared.error.Error.{Error as ErrorOf};
 ghost use Rattle.archive_clock.specs.Asked.{IsNotShown, IsShown, lacks_offset, millisecond_of};
-ghost use Rattle.archive_clock.specs.Span.{IsSpan};
+ghost use Rattle.archive_clock.specs.Span.{IsSpan, nothing};
 
 use crate::span::read_back;
 use jiff::civil::DateTime;
 use jiff::error::Part;
 use jiff::tz::TimeZone;
 use jiff::{Error, Timestamp};
+
+/// No span of time: what lies so far back is now.
+const NOTHING: &[u8] = b"0s";
 
 fn millisecond_of(instant: Timestamp) -> Option<u64>
     ensures { result ≡ millisecond_of instant.nanosecond }
@@ -39,7 +42,7 @@ fn read_local(text: &str, zone: &TimeZone) -> Option<u64>
 }
 
 /// A time in milliseconds since 1970: an RFC 3339 text, the same without an offset in this zone, or a span back from
-/// now.
+/// now; `-0s` is now.
 pub fn read_time(text: &str, now: u64, zone: &TimeZone) -> Option<u64>
     ensures instant { (nanosecond : ℤ) → slice_index text.now 0 ≢ 45 → parse_timestamp text.now ≡ Ok nanosecond
         → result ≡ millisecond_of nanosecond }
@@ -47,13 +50,18 @@ pub fn read_time(text: &str, now: u64, zone: &TimeZone) -> Option<u64>
         → error ≢ lacks_offset → result ≡ None }
     ensures local { slice_index text.now 0 ≢ 45 → parse_timestamp text.now ≡ Err lacks_offset
         → MatchOption result (IsNotShown (plain_zone zone.now) text.now) (IsShown (plain_zone zone.now) text.now) }
-    ensures back { (span : List ℕ) (seconds time : ℕ) → text.now ≡ 45 ∷ span → IsSpan span seconds
+    ensures now { text.now ≡ 45 ∷ nothing → result ≡ Some now }
+    ensures back { (span : List ℕ) (seconds time : ℕ) → text.now ≡ 45 ∷ span → span ≢ nothing → IsSpan span seconds
         → time + seconds * 1000 ≡ now → result ≡ Some time }
-    ensures only { (span : List ℕ) → text.now ≡ 45 ∷ span
+    ensures only { (span : List ℕ) → text.now ≡ 45 ∷ span → span ≢ nothing
         → IfSome result (λ time. (seconds : ℕ) × IsSpan span seconds × (time + seconds * 1000 ≡ now)) }
 {
     if let [b'-', span @ ..] = text.as_bytes() {
-        return read_back(span, now);
+        return if span == NOTHING {
+            Some(now)
+        } else {
+            read_back(span, now)
+        };
     }
     match text.parse::<Timestamp>() {
         Ok(instant) => millisecond_of(instant),

@@ -7,7 +7,7 @@ use jiff::tz::TimeZone;
 const NOW: u64 = 1_795_874_700_000;
 
 /// Texts, and the time of each in UTC. The first three are examples of RFC 3339, section 5.8.
-const TIMES: [(&str, Option<u64>); 32] = [
+const TIMES: [(&str, Option<u64>); 34] = [
     ("1985-04-12T23:20:50.52Z", Some(482_196_050_520)),
     ("1996-12-19T16:39:57-08:00", Some(851_042_397_000)),
     ("1937-01-01T12:00:27.87+00:20", None),
@@ -44,6 +44,8 @@ const TIMES: [(&str, Option<u64>); 32] = [
     ("-3d", Some(1_795_615_500_000)),
     ("-", None),
     ("-30000d", None),
+    ("-0s", Some(NOW)),
+    ("-0m", None),
 ];
 
 #[test]

@@ -9,7 +9,7 @@ behind text span e =
     let long : length (45 ∷ span) - 1 ≡ length span = omega arith in
     ap (λ (t : List ℕ). take (length t - 1) (drop 1 t)) e ∙ ap (λ n. take n span) long ∙ take-length span
 
-pub returns-in-45-clause-back : goal.returns-in-45-clause-back
-returns-in-45-clause-back c span seconds time e is back =
+pub returns-else-eq-clause-back : goal.returns-else-eq-clause-back
+returns-else-eq-clause-back c span seconds time e some is back =
     c.read_back.ensures.each seconds time
     (subst (λ (t : List ℕ). IsSpan t seconds) (sym (behind c.as_bytes.result.now span (c.as_bytes.ensures.value ∙ e))) is) back
