@@ -26,5 +26,5 @@ pub use laws::walks_end_where_bytes_are_committed;
 pub use listed::{Entry, Listed, Seen, read_entries};
 pub use ogg_page::Memory;
 pub use prefix::Prefix;
-pub use span::{GAP, Span, goes_on_with, is_gap, overlaps, span_of};
+pub use span::{GAP, Span, begin_of, goes_on_with, is_gap, overlaps, span_of};
 pub use walking::end_from;

@@ -1,6 +1,7 @@
 //! The front of a disk, as a source of pages.
-ghost use Rattle.std.specs.Prelude.{◌≡◌, ◌↔◌, ◌+◌, ◌≤◌, length, take, drop, OnOk, IfOk, IfErr};
-ghost use Rattle.archive_reading.specs.Prefix.{PrefixState, prefix_bytes, prefix_state};
+ghost use Rattle.std.specs.Prelude.{◌≡◌, ◌↔◌, ◌+◌, ◌≤◌, ◌<◌, ◌^◌, length, min, take, drop, OnErr, OnOk, IfOk, IfErr};
+ghost use Rattle.disk_model.specs.Fault.{HasCause};
+ghost use Rattle.archive_reading.specs.Prefix.{IsSameDisk, PrefixState, prefix_bytes, prefix_state};
 ghost use Rattle.gate_file.specs.Reading.{OnlyReads, nothing_read, reads_then};
 
 use disk_model::{Disk, DiskFault};
@@ -47,6 +48,19 @@ impl<D: Disk> Prefix<D> {
             disk: self.disk,
             end,
         }
+    }
+
+    /// The disk may have grown: the front has all bytes that it has now, up to this end. After a fault it is as it was.
+    pub fn look_again(&mut self, most: u64) -> Result<(), DiskFault>
+        ensures again { IfOk result (λ u. D.is_honest self.old.disk → self.new.end ≡ min (length (D.state self.old.disk).contents) most) }
+        ensures short { IfOk result (λ u. D.is_honest self.old.disk → length (D.state self.old.disk).contents < 2 ^ 63) }
+        ensures same { OnErr result (self.new.end ≡ self.old.end) }
+        ensures disk { IsSameDisk D.Disk self.old.disk self.new.disk }
+        ensures cause { HasCause (D.failures self.old.disk) (D.failures self.new.disk) result }
+    {
+        let len = self.disk.len()?;
+        self.end = len.min(most);
+        Ok(())
     }
 
     /// The disk as it stands.

@@ -17,7 +17,8 @@ pub struct Span {
     pub end: u64,
 }
 
-fn begin_of(name: Name) -> u64
+/// When a file was begun, in milliseconds since 1970: the second that its name tells.
+pub fn begin_of(name: Name) -> u64
     ensures { result ≡ begin_of name }
 {
     name.begin.min(LAST_SECOND) * 1000
