@@ -1,5 +1,5 @@
 //! A cut: what is still to be given of it.
-ghost use Rattle.std.specs.Prelude.{false, ◌≡◌, ◌≢◌, ◌≤◌, ◌<◌, ℕ, List, [], ◌++◌, Err, length, min, take, drop, IfOk, IsErr, OnErr};
+ghost use Rattle.std.specs.Prelude.{false, nat_eq, ◌≡◌, ◌≢◌, ◌≤◌, ◌<◌, ℕ, List, [], ◌++◌, Err, length, min, take, drop, IfOk, IsErr, OnErr};
 ghost use Rattle.std.specs.List.{AllByRecursion};
 ghost use Rattle.ogg_page.specs.Page.{Page, IsPage};
 ghost use Rattle.ogg_page.specs.Window.{KeepsSource};
@@ -13,6 +13,7 @@ ghost use Rattle.serve_live.specs.Live.{Moment};
 ghost use Rattle.serve_live.specs.Places.{IsPlaceIn};
 ghost use Rattle.archive_cut.specs.Cut.{HasNumbers, ends_of};
 ghost use Rattle.archive_cut.specs.Cutting.{GivesOf, IsCutting, IsLeftOf, IsSameLink};
+ghost use Rattle.archive_cut.specs.Heads.{AreWalked};
 ghost use Rattle.archive_cut.specs.Starting.{IsStart, IsStartJoined, IsStartWaiting};
 
 use crate::endings::ends_of;
@@ -104,6 +105,63 @@ fn join_link<S: PageSource>(
     }
 }
 
+/// A listener that has joined a link, where the link's pages end, and the link's streams there.
+#[derive(Drop)]
+struct Joining {
+    listener: Listener,
+    link_end: u64,
+    streams: Vec<StreamState>,
+}
+
+/// Joins the link that is open at a place of a file whose committed bytes end at `end`.
+fn join_at<S: PageSource>(
+    alloc: Global,
+    source: &mut S,
+    link: Join,
+    start: u64,
+    end: u64,
+) -> Result<Joining, CutFault>
+    ensures hears { (committed more : List ℕ) (links : List (List Page)) (moment : Moment) → S.is_honest source.old
+        → S.bytes source.old ≡ committed ++ more → length committed ≡ end → AreLinks committed links
+        → IsStartJoined links moment start link → IfOk result (λ joining. IsHearing moment committed joining.listener []
+        × IsSameLink moment committed (nat_eq joining.link_end end)) }
+    ensures streams { (committed more : List ℕ) (links : List (List Page)) (moment : Moment) → S.is_honest source.old
+        → S.bytes source.old ≡ committed ++ more → length committed ≡ end → AreLinks committed links
+        → IsStartJoined links moment start link
+        → IfOk result (λ joining. AreWalked (S.bytes source.old) (chain_state_of links).streams end joining.link_end joining.streams.items) }
+    ensures cause { (committed more : List ℕ) (links : List (List Page)) (moment : Moment) → S.is_honest source.old
+        → S.bytes source.old ≡ committed ++ more → length committed ≡ end → AreLinks committed links
+        → IsStartJoined links moment start link → result ≡ Err CutFault.Source
+        → HasFailed (S.failures source.old) (S.failures source.new) }
+    ensures number { result ≢ Err CutFault.NoNumber }
+    ensures later { S.failures source.old ≤ S.failures source.new }
+    ensures source { KeepsSource S.bytes S.is_honest S.size S.only_reads source.old source.new }
+{
+    let place = JoinPlace {
+        begin: link.begin,
+        begun: link.begun,
+        boundary: start,
+    };
+    let mut streams = Vec::new(alloc);
+    match take_pages(source, link.begin, start, &mut streams) {
+        Ok(()) => match take_link(source, start, end, &mut streams) {
+            Ok(link_end) => match join_link(alloc, source, place, link_end, streams.as_slice()) {
+                Ok(listener) => {
+                    listeners_hear_what_they_should();
+                    Ok(Joining {
+                        listener,
+                        link_end,
+                        streams,
+                    })
+                }
+                Err(fault) => Err(fault),
+            },
+            Err(fault) => Err(fault),
+        },
+        Err(fault) => Err(fault),
+    }
+}
+
 /// The cut from a place in a link that is open.
 fn joined<S: PageSource>(
     alloc: Global,
@@ -125,27 +183,44 @@ fn joined<S: PageSource>(
     ensures later { S.failures source.old ≤ S.failures source.new }
     ensures source { KeepsSource S.bytes S.is_honest S.size S.only_reads source.old source.new }
 {
-    let place = JoinPlace {
-        begin: link.begin,
-        begun: link.begun,
-        boundary: start,
-    };
-    let mut streams = Vec::new(alloc);
-    match take_pages(source, link.begin, start, &mut streams) {
-        Ok(()) => match take_link(source, start, end, &mut streams) {
-            Ok(link_end) => match join_link(alloc, source, place, link_end, streams.as_slice()) {
-                Ok(listener) => match take_pages(source, link_end, end, &mut streams) {
-                    Ok(()) => {
-                        listeners_hear_what_they_should();
-                        let same = link_end == end;
-                        Cut::new(alloc, listener, end, streams.as_slice(), same)
-                    }
-                    Err(fault) => Err(fault),
-                },
+    match join_at(alloc, source, link, start, end) {
+        Ok(joining) => {
+            let Joining {
+                listener,
+                link_end,
+                streams,
+            } = joining;
+            let mut streams = streams;
+            match take_pages(source, link_end, end, &mut streams) {
+                Ok(()) => Cut::new(alloc, listener, end, streams.as_slice(), link_end == end),
                 Err(fault) => Err(fault),
-            },
-            Err(fault) => Err(fault),
-        },
+            }
+        }
+        Err(fault) => Err(fault),
+    }
+}
+
+/// The listener that hears a file from a place on, in the link that is open there. The committed bytes end at `end`, and as
+/// more are committed it hears these. The heads of the link's pages are read. Memory is taken for its streams.
+pub fn hear_from<S: PageSource>(
+    alloc: Global,
+    source: &mut S,
+    link: Join,
+    from: u64,
+    end: u64,
+) -> Result<Listener, CutFault>
+    ensures hears { (committed more : List ℕ) (links : List (List Page)) (moment : Moment) → S.is_honest source.old
+        → S.bytes source.old ≡ committed ++ more → length committed ≡ end → AreLinks committed links
+        → IsStartJoined links moment from link → IfOk result (λ listener. IsHearing moment committed listener []) }
+    ensures cause { (committed more : List ℕ) (links : List (List Page)) (moment : Moment) → S.is_honest source.old
+        → S.bytes source.old ≡ committed ++ more → length committed ≡ end → AreLinks committed links
+        → IsStartJoined links moment from link → result ≡ Err CutFault.Source
+        → HasFailed (S.failures source.old) (S.failures source.new) }
+    ensures later { S.failures source.old ≤ S.failures source.new }
+    ensures source { KeepsSource S.bytes S.is_honest S.size S.only_reads source.old source.new }
+{
+    match join_at(alloc, source, link, from, end) {
+        Ok(joining) => Ok(joining.listener),
         Err(fault) => Err(fault),
     }
 }

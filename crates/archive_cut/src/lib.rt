@@ -18,7 +18,7 @@ mod retelling;
 mod stretch;
 
 pub use continuing::{Meeting, Named, meeting_of, name_page, name_said, names_on, open_streams};
-pub use cut::Cut;
+pub use cut::{Cut, hear_from};
 pub use fault::CutFault;
 pub use finishing::{Mark, StreamEnds, Way, mark_last};
 pub use heads::{Said, said_of, take_page, take_pages};

@@ -1,130 +1,39 @@
-use Rattle.std.proofs.Common.{◌≡◌, ◌≤◌, Err, [], length, sym, ◌∙◌, ap, subst, arith}
-use Rattle.std.specs.Prelude.{nat_eq}
-use Rattle.std.specs.List.{AllByRecursion, flat_map}
-use Rattle.ogg_page.specs.Page.{IsPage, bytes_of_pages}
+use Rattle.std.proofs.Common.{◌≡◌, Err, sym, ◌∙◌, ap, subst}
+use Rattle.std.specs.List.{AllByRecursion}
+use Rattle.ogg_page.specs.Page.{IsPage}
 use Rattle.page_heads.specs.Laws.{later_failed}
-use Rattle.serve_live.specs.Hearing.{IsHearing}
 use Rattle.archive_cut.specs.Cut.{ends_of}
-use Rattle.archive_cut.specs.Cutting.{IsSameLink}
 use Rattle.archive_cut.specs.Heads.{StandUpTo, streams_after}
 use Rattle.archive_cut.specs.declared.fault.CutFault.TheVariants.{Source}
-use Rattle.archive_cut.proofs.Starts.{ready_to_join}
 use Rattle.archive_cut.proofs.cut.joined.Goals as goal
 
 pub returns-in-Ok-take_pages-clause-cuts : goal.returns-in-Ok-take_pages-clause-cuts
 returns-in-Ok-take_pages-clause-cuts g c committed more links moment sure is end_is l at =
-    let bytes = g.S.PageSource.bytes c.args.source.now in
-    let r = ready_to_join bytes committed more links moment c.args.start c.args.end c.args.link is end_is l at in
-    let up = flat_map bytes_of_pages r.up_to in
-    let streams0 = c.in-Ok.ensures.taken r.before sure r.before_stand ∙ ap (λ s. streams_after s r.before) c.new-streams.ensures.items in
-    let k1 = c.take_pages.ensures.source in
-    let sure1 = k1.honest_same.0 sure in
-    let bytes1 = k1.bytes_same sure in
-    let place : c.in-Ok-take_link.link_end ≡ length up =
-    c.in-Ok-take_link.ensures.found r.since sure1 (subst (λ b. StandUpTo b c.args.start c.args.end r.since) (sym bytes1) r.since_stand) ∙ r.found in
-    let own = subst (λ n. StandUpTo bytes c.args.start n r.own) (sym place) r.own_stand in
-    let taken1 = c.in-Ok-take_link.ensures.taken r.own sure1 (subst (λ b. StandUpTo b c.args.start c.in-Ok-take_link.link_end r.own) (sym bytes1) own) in
-    let streams1 = taken1 ∙ ap (λ s. streams_after s r.own) streams0 ∙ r.own_streams in
-    let k2 = c.take_link.ensures.source in
-    let sure2 = k2.honest_same.0 sure1 in
-    let bytes2 = k2.bytes_same sure1 ∙ bytes1 in
-    let hearing1 = c.in-Ok-join_link.ensures.joins up r.more r.up_to moment sure2 (bytes2 ∙ r.bytes_are) (sym place) r.up_links (c.as_slice.ensures.value ∙ streams1) r.place in
-    let k3 = c.join_link.ensures.source in
-    let sure3 = k3.honest_same.0 sure2 in
-    let bytes3 = k3.bytes_same sure2 ∙ bytes2 in
-    let further = subst (λ n. StandUpTo bytes n c.args.end (flat_map (λ x. x) r.further)) (sym place) r.further_stand in
-    let taken2 = c.in-Ok-take_pages.ensures.taken (flat_map (λ x. x) r.further) sure3 (subst (λ b. StandUpTo b c.in-Ok-take_link.link_end c.args.end (flat_map (λ x. x) r.further)) (sym bytes3) further) in
-    let streams2 = c.as_slice-in-Ok-take_pages.ensures.value ∙ taken2 ∙ ap (λ s. streams_after s (flat_map (λ x. x) r.further)) streams1 ∙ r.all_streams in
-    let grown = c.listeners_hear_what_they_should.ensures.grows moment up c.in-Ok-join_link.listener [] (flat_map (λ x. x) r.further) hearing1 r.are_pages in
-    let hearing : IsHearing moment committed c.in-Ok-join_link.listener [] = subst (λ b. IsHearing moment b c.in-Ok-join_link.listener []) (sym r.split) grown in
-    let same : IsSameLink moment committed (nat_eq c.in-Ok-take_link.link_end c.args.end) = subst (λ n. IsSameLink moment committed (nat_eq n c.args.end)) (sym place) r.same in
-    c.new.ensures.cuts moment committed links hearing end_is l streams2 same
+    let (hearing, same) = c.in-Ok.ensures.hears committed more links moment sure is end_is l at in
+    let walked = c.in-Ok.ensures.streams committed more links moment sure is end_is l at in
+    let kept = c.join_at.ensures.source in
+    let taken = c.in-Ok-take_pages.ensures.taken walked.pages (kept.honest_same.0 sure)
+    (subst (λ b. StandUpTo b c.in-Ok.joining.link_end c.args.end walked.pages) (sym (kept.bytes_same sure)) walked.left) in
+    c.new.ensures.cuts moment committed links hearing end_is l (c.as_slice.ensures.value ∙ taken ∙ walked.then_all) same
 
 pub returns-in-Ok-take_pages-clause-numbers : goal.returns-in-Ok-take_pages-clause-numbers
 returns-in-Ok-take_pages-clause-numbers g c committed more links moment sure is end_is l at err numbers =
-    let bytes = g.S.PageSource.bytes c.args.source.now in
-    let r = ready_to_join bytes committed more links moment c.args.start c.args.end c.args.link is end_is l at in
-    let up = flat_map bytes_of_pages r.up_to in
-    let streams0 = c.in-Ok.ensures.taken r.before sure r.before_stand ∙ ap (λ s. streams_after s r.before) c.new-streams.ensures.items in
-    let k1 = c.take_pages.ensures.source in
-    let sure1 = k1.honest_same.0 sure in
-    let bytes1 = k1.bytes_same sure in
-    let place : c.in-Ok-take_link.link_end ≡ length up =
-    c.in-Ok-take_link.ensures.found r.since sure1 (subst (λ b. StandUpTo b c.args.start c.args.end r.since) (sym bytes1) r.since_stand) ∙ r.found in
-    let own = subst (λ n. StandUpTo bytes c.args.start n r.own) (sym place) r.own_stand in
-    let taken1 = c.in-Ok-take_link.ensures.taken r.own sure1 (subst (λ b. StandUpTo b c.args.start c.in-Ok-take_link.link_end r.own) (sym bytes1) own) in
-    let streams1 = taken1 ∙ ap (λ s. streams_after s r.own) streams0 ∙ r.own_streams in
-    let k2 = c.take_link.ensures.source in
-    let sure2 = k2.honest_same.0 sure1 in
-    let bytes2 = k2.bytes_same sure1 ∙ bytes1 in
-    let k3 = c.join_link.ensures.source in
-    let sure3 = k3.honest_same.0 sure2 in
-    let bytes3 = k3.bytes_same sure2 ∙ bytes2 in
-    let further = subst (λ n. StandUpTo bytes n c.args.end (flat_map (λ x. x) r.further)) (sym place) r.further_stand in
-    let taken2 = c.in-Ok-take_pages.ensures.taken (flat_map (λ x. x) r.further) sure3 (subst (λ b. StandUpTo b c.in-Ok-take_link.link_end c.args.end (flat_map (λ x. x) r.further)) (sym bytes3) further) in
-    let streams2 = c.as_slice-in-Ok-take_pages.ensures.value ∙ taken2 ∙ ap (λ s. streams_after s (flat_map (λ x. x) r.further)) streams1 ∙ r.all_streams in
-    c.new.ensures.numbers err (subst (AllByRecursion IsPage) (ap ends_of (sym streams2)) numbers)
+    let walked = c.in-Ok.ensures.streams committed more links moment sure is end_is l at in
+    let kept = c.join_at.ensures.source in
+    let taken = c.in-Ok-take_pages.ensures.taken walked.pages (kept.honest_same.0 sure)
+    (subst (λ b. StandUpTo b c.in-Ok.joining.link_end c.args.end walked.pages) (sym (kept.bytes_same sure)) walked.left) in
+    c.new.ensures.numbers err (subst (AllByRecursion IsPage) (ap ends_of (sym (c.as_slice.ensures.value ∙ taken ∙ walked.then_all))) numbers)
 
-pub returns-in-Ok-join_link-clause-cause : goal.returns-in-Ok-join_link-clause-cause
-returns-in-Ok-join_link-clause-cause g c committed more links moment sure is end_is l at err =
-    let bytes = g.S.PageSource.bytes c.args.source.now in
-    let failures = g.S.PageSource.failures in
-    let r = ready_to_join bytes committed more links moment c.args.start c.args.end c.args.link is end_is l at in
-    let up = flat_map bytes_of_pages r.up_to in
-    let k1 = c.take_pages.ensures.source in
-    let sure1 = k1.honest_same.0 sure in
-    let bytes1 = k1.bytes_same sure in
-    let place : c.in-Ok-take_link.link_end ≡ length up =
-    c.in-Ok-take_link.ensures.found r.since sure1 (subst (λ b. StandUpTo b c.args.start c.args.end r.since) (sym bytes1) r.since_stand) ∙ r.found in
-    let k2 = c.take_link.ensures.source in
-    let sure2 = k2.honest_same.0 sure1 in
-    let bytes2 = k2.bytes_same sure1 ∙ bytes1 in
-    let k3 = c.join_link.ensures.source in
-    let sure3 = k3.honest_same.0 sure2 in
-    let bytes3 = k3.bytes_same sure2 ∙ bytes2 in
-    let further = subst (λ n. StandUpTo bytes n c.args.end (flat_map (λ x. x) r.further)) (sym place) r.further_stand in
+pub returns-in-Err-take_pages-clause-cause : goal.returns-in-Err-take_pages-clause-cause
+returns-in-Err-take_pages-clause-cause g c committed more links moment sure is end_is l at err =
+    let walked = c.in-Ok.ensures.streams committed more links moment sure is end_is l at in
+    let kept = c.join_at.ensures.source in
     let source : c.in-Err-take_pages.fault ≡ Source = cc in
-    let later : failures c.args.source.now ≤ failures c.join_link.new.source =
-    omega (arith, c.take_pages.ensures.later, c.take_link.ensures.later, c.join_link.ensures.later) in
-    later_failed _ _ _ later
-    (c.in-Err-take_pages.ensures.cause (flat_map (λ x. x) r.further) sure3
-    (subst (λ b. StandUpTo b c.in-Ok-take_link.link_end c.args.end (flat_map (λ x. x) r.further)) (sym bytes3) further) (ap Err source))
+    later_failed _ _ _ c.join_at.ensures.later
+    (c.in-Err-take_pages.ensures.cause walked.pages (kept.honest_same.0 sure)
+    (subst (λ b. StandUpTo b c.in-Ok.joining.link_end c.args.end walked.pages) (sym (kept.bytes_same sure)) walked.left) (ap Err source))
 
-pub returns-in-Ok-take_link-clause-cause : goal.returns-in-Ok-take_link-clause-cause
-returns-in-Ok-take_link-clause-cause g c committed more links moment sure is end_is l at err =
-    let bytes = g.S.PageSource.bytes c.args.source.now in
-    let failures = g.S.PageSource.failures in
-    let r = ready_to_join bytes committed more links moment c.args.start c.args.end c.args.link is end_is l at in
-    let up = flat_map bytes_of_pages r.up_to in
-    let streams0 = c.in-Ok.ensures.taken r.before sure r.before_stand ∙ ap (λ s. streams_after s r.before) c.new-streams.ensures.items in
-    let k1 = c.take_pages.ensures.source in
-    let sure1 = k1.honest_same.0 sure in
-    let bytes1 = k1.bytes_same sure in
-    let place : c.in-Ok-take_link.link_end ≡ length up =
-    c.in-Ok-take_link.ensures.found r.since sure1 (subst (λ b. StandUpTo b c.args.start c.args.end r.since) (sym bytes1) r.since_stand) ∙ r.found in
-    let own = subst (λ n. StandUpTo bytes c.args.start n r.own) (sym place) r.own_stand in
-    let taken1 = c.in-Ok-take_link.ensures.taken r.own sure1 (subst (λ b. StandUpTo b c.args.start c.in-Ok-take_link.link_end r.own) (sym bytes1) own) in
-    let streams1 = taken1 ∙ ap (λ s. streams_after s r.own) streams0 ∙ r.own_streams in
-    let k2 = c.take_link.ensures.source in
-    let sure2 = k2.honest_same.0 sure1 in
-    let bytes2 = k2.bytes_same sure1 ∙ bytes1 in
-    let source : c.in-Err-join_link.fault ≡ Source = cc in
-    let later : failures c.args.source.now ≤ failures c.take_link.new.source = omega (arith, c.take_pages.ensures.later, c.take_link.ensures.later) in
-    later_failed _ _ _ later
-    (c.in-Err-join_link.ensures.cause up r.more r.up_to moment sure2 (bytes2 ∙ r.bytes_are) (sym place) r.up_links (c.as_slice.ensures.value ∙ streams1) r.place (ap Err source))
-
-pub returns-in-Ok-clause-cause : goal.returns-in-Ok-clause-cause
-returns-in-Ok-clause-cause g c committed more links moment sure is end_is l at err =
-    let bytes = g.S.PageSource.bytes c.args.source.now in
-    let r = ready_to_join bytes committed more links moment c.args.start c.args.end c.args.link is end_is l at in
-    let k1 = c.take_pages.ensures.source in
-    let source : c.in-Err-take_link.fault ≡ Source = cc in
-    later_failed _ _ _ c.take_pages.ensures.later
-    (c.in-Err-take_link.ensures.cause r.since (k1.honest_same.0 sure)
-    (subst (λ b. StandUpTo b c.args.start c.args.end r.since) (sym (k1.bytes_same sure)) r.since_stand) (ap Err source))
-
-pub returns-clause-cause : goal.returns-clause-cause
-returns-clause-cause g c committed more links moment sure is end_is l at err =
-    let r = ready_to_join (g.S.PageSource.bytes c.args.source.now) committed more links moment c.args.start c.args.end c.args.link is end_is l at in
+pub returns-in-Err-clause-cause : goal.returns-in-Err-clause-cause
+returns-in-Err-clause-cause g c committed more links moment sure is end_is l at err =
     let source : c.in-Err.fault ≡ Source = cc in
-    c.in-Err.ensures.cause r.before sure r.before_stand (ap Err source)
+    c.in-Err.ensures.cause committed more links moment sure is end_is l at (ap Err source)
