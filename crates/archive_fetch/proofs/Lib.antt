@@ -1,4 +1,7 @@
+mod Contents
+mod Ending
 mod Numbers
 mod Placed
 mod Ranges
 mod Tags
+mod Slashes

@@ -14,6 +14,16 @@ caching false = line (codes "Cache-Control: no-cache")
 abbrev pub validators : FileFacts → List ℕ
 validators file = line (codes "ETag: " ++ tag_of file) ++ caching file.has_ended
 
+-- a cut is kept under a name of its times (RFC 6266)
+abbrev pub both : List ℕ → List ℕ → List ℕ
+both from to = from ++ codes "-" ++ to
+
+abbrev pub name_of : List ℕ → List ℕ → List ℕ
+name_of from to = both from to ++ codes ".ogg\""
+
+abbrev pub disposition : List ℕ → List ℕ → List ℕ
+disposition from to = line (codes "Content-Disposition: attachment; filename=\"" ++ name_of from to)
+
 -- a head with these lines more, before the empty one at its end
 abbrev pub with_lines : List ℕ → List ℕ → List ℕ
 with_lines lines head = take (length head - 2) head ++ lines ++ line []

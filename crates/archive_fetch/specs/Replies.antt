@@ -1,13 +1,13 @@
 -- The answer to a request for a file of an archive (RFC 9110, sections 9.3, 13 and 14). Which fields count is as for the
 -- resources of one file.
-use Rattle.std.specs.Prelude.{◌≡◌, ⊤, ◌⊎◌, ℕ, ◌+◌, ◌≤◌, Bool, true, false, if◌then◌else◌, Option, Some, None, List, [], ◌++◌, codes, slice_range, take}
+use Rattle.std.specs.Prelude.{◌≡◌, ⊤, ◌⊎◌, ℕ, ◌+◌, ◌≤◌, Bool, if◌then◌else◌, Option, Some, None, List, [], ◌++◌, codes, slice_range}
 use Rattle.std.specs.Fmt.{decimal}
 use Rattle.memchr.specs.Find.{OccursAt}
 use Rattle.ogg_http.specs.Answer.{AnswerFits}
 use Rattle.ogg_http.specs.declared.answer.Answer.{Answer}
 use Rattle.ogg_http.specs.declared.answer.Answer.TheVariants.{Full, Listing, Part as PartOf, Unsatisfiable as NoPart, BadRequest, NotFound, NotAllowed}
 use Rattle.ogg_http.specs.declared.head.Verb.{Verb}
-use Rattle.ogg_http.specs.declared.head.Verb.TheVariants.{Get, Head, Other}
+use Rattle.ogg_http.specs.declared.head.Verb.TheVariants.{Get, Other}
 use Rattle.ogg_http.specs.declared.range.Ranged.{Ranged}
 use Rattle.ogg_http.specs.declared.range.Ranged.TheVariants.{Whole, Part, Unsatisfiable}
 use Rattle.serve_responses.specs.Response.{Asked, asked_range, lacks_host}
@@ -35,6 +35,14 @@ answer_for Unsatisfiable len = NoPart len
 abbrev pub answer_in : Verb → Option (List ℕ) → ℕ → Answer
 answer_in Get range len = answer_for (asked_range range len) len
 answer_in verb range len = Full len
+
+-- Whatever it names, a request of HTTP/1.1 without one Host field is bad (RFC 9112, section 3.2), and files are only read.
+abbrev pub refusal_in : Verb → Option Answer
+refusal_in Other = Some NotAllowed
+refusal_in verb = None
+
+abbrev pub refusal_of : Asked → Option Answer
+refusal_of asked = if lacks_host asked then Some BadRequest else refusal_in asked.verb
 
 -- What the client has isn't sent again (section 13.1.2), before a range is looked at (section 13.2.2).
 abbrev pub reply_in : Verb → Option (List ℕ) → Bool → Option FileFacts → Reply

@@ -1,20 +1,21 @@
 //! Whether a client has a file as it stands (RFC 9110, section 13.1.2).
-ghost use Rattle.std.specs.Prelude.{◌≡◌, ◌++◌, ◌+◌, ◌≤◌, ℕ, List, All, codes, length, map, option_copied, true, false};
+ghost use Rattle.std.specs.Prelude.{◌≡◌, ◌++◌, ◌+◌, ◌≤◌, ℕ, List, codes, length, map, option_copied, true, false};
 ghost use Rattle.std.specs.Fmt.{decimal};
 ghost use Rattle.memchr.specs.Find.{OccursAt};
 ghost use Rattle.arrayvec.specs.ArrayVec.{array_vec_len};
 ghost use Rattle.httparse.specs.Grammar.{RequestHead, ReadsRequest};
-ghost use Rattle.httparse.specs.Spans.{IsHeaderWithin, header_bytes, name_and_value};
-ghost use Rattle.ogg_http.specs.Fields.{first_of_name, is_named};
+ghost use Rattle.httparse.specs.Spans.{name_and_value};
+ghost use Rattle.ogg_http.specs.Fields.{first_of_name};
 ghost use Rattle.ogg_http.specs.Head.{head_bytes, most_fields};
 ghost use Rattle.archive_fetch.specs.Replies.{IsHad, tag_of};
 
 use crate::replies::FileFacts;
 use arrayvec::ArrayVec;
 use httparse::Status;
-use httparse::spans::{EMPTY_HEADER_SPAN, HeaderSpan, parse_request};
+use httparse::spans::{EMPTY_HEADER_SPAN, parse_request};
 use itoa::Buffer;
 use memchr::memmem;
+use ogg_http::first_of_name;
 
 /// The greatest number of bytes of a head; the empty lines before it count.
 const MOST_BYTES: usize = 8192;
@@ -56,32 +57,6 @@ pub(crate) fn tag_of(file: FileFacts) -> Tag
     push_number(&mut tag, file.bytes);
     push(&mut tag, b"\"");
     tag
-}
-
-fn is_named(name: &[u8], wanted: &[u8]) -> bool
-    ensures { result ≡ is_named wanted.now name.now }
-{
-    name.eq_ignore_ascii_case(wanted)
-}
-
-/// The value of the first field with this name. The spans are of the first `len` bytes of `bytes`.
-fn first_of_name<'b>(
-    bytes: &'b [u8],
-    len: usize,
-    fields: &[HeaderSpan],
-    wanted: &[u8],
-) -> Option<&'b [u8]>
-    requires inside { len ≤ length bytes.now }
-    requires within { All (IsHeaderWithin len) fields.now }
-    ensures { option_copied result
-        ≡ first_of_name wanted.now (map (header_bytes bytes.now) fields.now) }
-{
-    for field in fields {
-        if is_named(field.name.of(bytes), wanted) {
-            return Some(field.value.of(bytes));
-        }
-    }
-    None
 }
 
 /// The value of `If-None-Match`, if the head at the front of these bytes has it.

@@ -3,7 +3,7 @@ ghost use Rattle.std.specs.Prelude.{◌≡◌, option_copied, IfSome};
 ghost use Rattle.ogg_http.specs.Answer.{AnswerFits};
 ghost use Rattle.ogg_http.specs.Range.{LiesIn};
 ghost use Rattle.serve_responses.specs.Response.{asked_by, asked_range};
-ghost use Rattle.archive_fetch.specs.Replies.{IsWithin, LiesWithin, ReplyFits, answer_for, answer_in, list_answer, reply_of};
+ghost use Rattle.archive_fetch.specs.Replies.{IsWithin, LiesWithin, ReplyFits, answer_for, answer_in, list_answer, refusal_of, reply_of};
 
 use ogg_http::{Answer, Ranged, Request, Verb, range_of};
 
@@ -15,6 +15,21 @@ pub struct FileFacts {
     pub bytes: u64,
     /// Whether it has ended: its bytes stay as they are.
     pub has_ended: bool,
+}
+
+/// Why a request isn't answered with a file, whichever it names: HTTP/1.1 has one Host field (RFC 9112, section 3.2), and files
+/// are only read.
+pub fn refusal_of(request: &Request<'_>) -> Option<Answer>
+    ensures refusal { result ≡ refusal_of (asked_by request.now) }
+    ensures fits { IfSome result (λ answer. AnswerFits answer) }
+{
+    if request.http11 && request.hosts != 1 {
+        return Some(Answer::BadRequest);
+    }
+    if request.verb == Verb::Other {
+        return Some(Answer::NotAllowed);
+    }
+    None
 }
 
 /// What a request for a file is answered.
@@ -51,7 +66,8 @@ fn answer_for(range: Ranged, len: u64) -> Answer
     }
 }
 
-fn answer_in(verb: Verb, range: Option<&[u8]>, len: u64) -> Answer
+/// The answer to a request for what has this many bytes, by its method and the value of its `Range`.
+pub fn answer_in(verb: Verb, range: Option<&[u8]>, len: u64) -> Answer
     ensures answer { result ≡ answer_in verb (option_copied range.entry) len }
     ensures fits { AnswerFits result }
     ensures within { LiesWithin len result }
@@ -68,11 +84,8 @@ pub fn reply_to(request: &Request<'_>, had: bool, file: Option<FileFacts>) -> Re
     ensures fits { ReplyFits result }
     ensures within { IfSome file (λ file. IsWithin file.bytes result) }
 {
-    if request.http11 && request.hosts != 1 {
-        return Reply::Refused(Answer::BadRequest);
-    }
-    if request.verb == Verb::Other {
-        return Reply::Refused(Answer::NotAllowed);
+    if let Some(refusal) = refusal_of(request) {
+        return Reply::Refused(refusal);
     }
     let Some(file) = file else {
         return Reply::Refused(Answer::NotFound);
@@ -88,11 +101,8 @@ pub fn list_answer(request: &Request<'_>, len: u64) -> Answer
     ensures answer { result ≡ list_answer (asked_by request.now) len }
     ensures fits { AnswerFits result }
 {
-    if request.http11 && request.hosts != 1 {
-        return Answer::BadRequest;
-    }
-    match request.verb {
-        Verb::Other => Answer::NotAllowed,
-        _ => Answer::Listing(len),
+    match refusal_of(request) {
+        Some(refusal) => refusal,
+        None => Answer::Listing(len),
     }
 }

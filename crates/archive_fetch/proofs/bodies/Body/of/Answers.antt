@@ -1,4 +1,4 @@
-use Rattle.std.proofs.Common.{◌≤◌, arith}
+use Rattle.std.proofs.Common.{arith}
 use Rattle.archive_fetch.proofs.bodies.Body.of.Goals.{else-start-end-via-then-start-end+else-end, else-start-end-via-else-start-end}
 use Rattle.archive_fetch.proofs.bodies.Body.of.Goals as goal
 

@@ -1,0 +1,26 @@
+use Rattle.std.proofs.Common.{◌≡◌, Some, sym, ◌∙◌, ap, subst}
+use Rattle.slab.specs.Slab.{get, with_value}
+use Rattle.serve_clients.specs.Client.{ClientState}
+use Rattle.archive_fetch.specs.Hearing.{Grows}
+use Rattle.archive_fetch.specs.declared.fetches.Content.TheVariants.{Heard}
+use Rattle.archive_fetch.proofs.Placed.{placed, same}
+use Rattle.archive_fetch.proofs.fetches.Fetches.grows.Goals as goal
+
+pub returns-in-Some-get_mut-clause-grows : goal.returns-in-Some-get_mut-clause-grows
+returns-in-Some-get_mut-clause-grows g c client id heard here session found =
+    let slots = c.args.self.now.clients.slots in
+    let contents = c.args.self.now.contents in
+    let there : get slots c.args.key ≡ Some c.in-Some.client.now = sym c.in-Some.ensures.value in
+    let is : c.in-Some.client.now ≡ client = same _ _ (sym there ∙ here) in
+    let same_id : c.in-Some-session.id ≡ id =
+    same _ _ (sym c.in-Some-session.is ∙ ap (λ (one : ClientState). one.session) (c.client.view_is ∙ is) ∙ session) in
+    let at : get contents c.in-Some-session.id ≡ Some c.in-Some-get_mut.content.now = sym c.in-Some-get_mut.ensures.value in
+    let content : c.in-Some-get_mut.content.now ≡ Heard heard = same _ _ (sym at ∙ ap (get contents) same_id ∙ found) in
+    let (rest, becomes, left) = c.grown.ensures.grows heard (c.replace-taken.ensures.value ∙ content) in (
+      c.grown.new.client,
+      rest,
+      subst (λ (one : ClientState). Grows g.D.Disk c.args.committed one heard c.grown.new.client rest) is becomes,
+      placed slots c.args.key c.in-Some.client.now c.grown.new.client there,
+      subst (λ key. get (with_value contents c.in-Some-session.id c.grown.result) key ≡ Some (Heard rest)) same_id
+          (placed contents c.in-Some-session.id c.in-Some-get_mut.content.now c.grown.result at ∙ ap Some left),
+    )
