@@ -487,6 +487,11 @@ are ended, and the next one begins a new link. What can't be read of it is mende
   GET /live          what is recorded from now on, without an end
   GET /              the links, as `links` lists them
   GET /link/NUMBER   a link, or a range of its bytes; so is all else that `serve` answers
+  GET /files         of a folder: its files, as `list` lists them
+  GET /file/NUMBER   of a folder: a file, or a range of its bytes
+  GET /from/TIME     of a folder: what was recorded from then on, and goes on into what is live
+  GET /from/TIME/to/TIME
+                     of a folder: what was recorded between the two, as `cut` writes it
   GET /status        the station's numbers, in Prometheus' text format
 
 Whatever is heard is on the disk. The program ends after a fault, or when it is stopped: run the same line

@@ -1,6 +1,7 @@
 //! The parts of a cut, written one after the other.
 
-use crate::cutting::{Asked, Finds};
+use crate::cut_lines::{Told, put_cut};
+use crate::cutting::{Asked, Finding, Finds};
 use crate::serials::{NoPlace, Serials};
 use crate::telling::or_memory;
 use archive_cut::{Cut, Paged, Said, StreamEnds, Stretch, Way, mark_last, page_room};
@@ -85,6 +86,12 @@ impl PartPages {
         Ok(Some((placed, size)))
     }
 
+    /// The room of its pages, for those of another part.
+    fn into_room(self) -> Vec<u8> {
+        let PartPages { paged, .. } = self;
+        paged.into_room()
+    }
+
     /// Writes what was passed, and leaves out the next page, of this size.
     fn leave_out<W: Write>(&mut self, size: usize, out: &mut W) -> Result<(), Fault> {
         write_bytes(self.paged.passed(), out)?;
@@ -103,38 +110,158 @@ pub(crate) fn or_fault(placed: Result<Said, NoPlace>) -> Result<Said, Fault> {
     }
 }
 
-impl<'a> Asked<'a> {
-    /// Writes all parts.
-    pub(crate) fn write<W: Write>(
-        &self,
-        finds: Finds,
-        raw: bool,
-        out: &mut W,
-    ) -> Result<(), Fault> {
-        let Finds { parts, ends, .. } = finds;
-        let mut passed = StreamEnds::new(self.rt.alloc());
-        let mut serials = Serials::new(self.rt.alloc());
-        let mut marked = or_memory(PageBuffer::new(self.rt.alloc()))?;
-        let mut room = or_memory(page_room(self.rt.alloc()))?;
-        for part in parts {
-            let mut pages = self.pages(part, room, &mut serials)?;
-            if raw {
-                write_raw(&mut pages, &mut serials, out)?;
-            } else {
-                write_finished(
-                    &mut pages,
-                    &mut serials,
-                    &ends,
-                    &mut passed,
-                    &mut marked,
-                    out,
-                )?;
-            }
-            room = pages.paged.into_room();
+/// A cut that is written, page after page.
+#[derive(Drop)]
+pub struct Cutting<'a> {
+    asked: Asked<'a>,
+    // those that aren't written yet, the next one last
+    parts: Vec<Part>,
+    // the part that is written
+    pages: Option<PartPages>,
+    raw: bool,
+    from: u64,
+    to: u64,
+    files: u64,
+    gaps: Vec<u8>,
+    ends: StreamEnds,
+    // what has become of the links before
+    passed: StreamEnds,
+    serials: Serials,
+    marked: PageBuffer,
+    room: Vec<u8>,
+}
+
+impl<'a> Cutting<'a> {
+    /// The cut of what was found, once all files were looked at. With `raw` streams end where they ended. None if nothing was
+    /// found.
+    pub fn of(finding: Finding<'a>, raw: bool) -> Result<Option<Cutting<'a>>, Fault> {
+        let Finding { asked, finds, .. } = finding;
+        let Finds {
+            mut parts,
+            from,
+            to,
+            gaps,
+            ends,
+            ..
+        } = finds;
+        if parts.is_empty() {
+            return Ok(None);
         }
+        let files = parts.len() as u64;
+        parts.reverse();
+        let alloc = asked.rt.alloc();
+        Ok(Some(Cutting {
+            asked,
+            parts,
+            pages: None,
+            raw,
+            from,
+            to,
+            files,
+            gaps,
+            ends,
+            passed: StreamEnds::new(alloc),
+            serials: Serials::new(alloc),
+            marked: or_memory(PageBuffer::new(alloc))?,
+            room: or_memory(page_room(alloc))?,
+        }))
+    }
+
+    /// How many bytes it has.
+    pub fn bytes(&self) -> u64 {
+        self.ends.bytes(self.raw)
+    }
+
+    /// The time of its first commands and that of its last, in milliseconds since 1970.
+    pub fn times(&self) -> (u64, u64) {
+        (self.from, self.to)
+    }
+
+    /// Tells what is in the cut, and each gap.
+    pub(crate) fn tell(&self) -> Result<(), Fault> {
+        let told = Told {
+            from: self.from,
+            to: self.to,
+            files: self.files,
+            links: self.ends.links(),
+            bytes: self.bytes(),
+        };
+        let rt = self.asked.rt;
+        let mut lines = Vec::new(rt.alloc());
+        or_memory(put_cut(told, &mut lines))?;
+        let _ = write_whole(&mut rt.stderr(), lines.as_slice());
+        let _ = write_whole(&mut rt.stderr(), self.gaps.as_slice());
         Ok(())
     }
 
+    /// Writes all of it.
+    pub(crate) fn write<W: Write>(&mut self, out: &mut W) -> Result<(), Fault> {
+        for _ in 0..u64::MAX {
+            if !self.step(out)? {
+                return Ok(());
+            }
+        }
+        Err(Fault::File)
+    }
+
+    /// Passes the next page, and writes what was passed before if more is read for it. It is false once all is written.
+    ///
+    /// It is `File` if a file can't be read again, `Write` if no more can be written, and `Memory` if memory is refused: a
+    /// part is written then.
+    pub fn step<W: Write>(&mut self, out: &mut W) -> Result<bool, Fault> {
+        let Some(mut pages) = self.pages.take() else {
+            return self.open_next();
+        };
+        match pages.next(&mut self.serials, out)? {
+            Some((said, size)) => {
+                self.pass(&mut pages, said, size, out)?;
+                self.pages = Some(pages);
+            }
+            None => self.room = pages.into_room(),
+        }
+        Ok(true)
+    }
+
+    /// Goes on to the next part. It is false if there is none.
+    fn open_next(&mut self) -> Result<bool, Fault> {
+        let Some(part) = self.parts.pop() else {
+            return Ok(false);
+        };
+        let room = std::mem::replace(&mut self.room, Vec::new(self.asked.rt.alloc()));
+        let pages = self.asked.pages(part, room, &mut self.serials)?;
+        self.pages = Some(pages);
+        Ok(true)
+    }
+
+    /// Passes a page: it stays, is left out, or is marked as its stream's last.
+    fn pass<W: Write>(
+        &mut self,
+        pages: &mut PartPages,
+        said: Said,
+        size: usize,
+        out: &mut W,
+    ) -> Result<(), Fault> {
+        if self.raw {
+            pages.paged.pass(size);
+            return Ok(());
+        }
+        or_memory(self.passed.note(&said, size as u64))?;
+        match self.ends.way(self.passed.links(), &said) {
+            Way::Stays => pages.paged.pass(size),
+            Way::Goes => pages.leave_out(size, out)?,
+            Way::Marked => {
+                let Ok(()) = mark_last(pages.paged.page(size), &mut self.marked) else {
+                    return Err(Fault::File);
+                };
+                pages.leave_out(size, out)?;
+                write_bytes(self.marked.bytes(), out)?;
+            }
+        }
+        Ok(())
+    }
+}
+
+impl<'a> Asked<'a> {
     /// The pages of a part, as they are in the cut after those of the parts before.
     fn pages(&self, part: Part, room: Vec<u8>, serials: &mut Serials) -> Result<PartPages, Fault> {
         let mut source = self.open_again(&part)?;
@@ -169,53 +296,9 @@ impl<'a> Asked<'a> {
     }
 }
 
-/// Writes the pages of a part.
-fn write_raw<W: Write>(
-    pages: &mut PartPages,
-    serials: &mut Serials,
-    out: &mut W,
-) -> Result<(), Fault> {
-    for _ in 0..u64::MAX {
-        match pages.next(serials, out)? {
-            Some((_, size)) => pages.paged.pass(size),
-            None => return Ok(()),
-        }
-    }
-    Err(Fault::File)
-}
-
 fn write_bytes<W: Write>(bytes: &[u8], out: &mut W) -> Result<(), Fault> {
     match write_whole(out, bytes) {
         Ok(()) => Ok(()),
         Err(_) => Err(Fault::Write),
     }
-}
-
-/// Writes the pages of a part, finished. What has become of the links before is known by `passed`.
-fn write_finished<W: Write>(
-    pages: &mut PartPages,
-    serials: &mut Serials,
-    ends: &StreamEnds,
-    passed: &mut StreamEnds,
-    marked: &mut PageBuffer,
-    out: &mut W,
-) -> Result<(), Fault> {
-    for _ in 0..u64::MAX {
-        let Some((said, size)) = pages.next(serials, out)? else {
-            return Ok(());
-        };
-        or_memory(passed.note(&said, size as u64))?;
-        match ends.way(passed.links(), &said) {
-            Way::Stays => pages.paged.pass(size),
-            Way::Goes => pages.leave_out(size, out)?,
-            Way::Marked => {
-                let Ok(()) = mark_last(pages.paged.page(size), marked) else {
-                    return Err(Fault::File);
-                };
-                pages.leave_out(size, out)?;
-                write_bytes(marked.bytes(), out)?;
-            }
-        }
-    }
-    Err(Fault::File)
 }

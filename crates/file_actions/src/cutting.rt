@@ -2,8 +2,7 @@
 
 use crate::cut_gaps::Air;
 use crate::cut_heads::is_walked;
-use crate::cut_lines::{Told, put_cut};
-use crate::cut_parts::Part;
+use crate::cut_parts::{Cutting, Part};
 use crate::files::{flushed, output};
 use crate::serials::Serials;
 use crate::telling::{now, or_memory};
@@ -13,13 +12,13 @@ use archive_cut::{
 };
 use archive_names::Name;
 use archive_reading::{
-    Listed, Prefix, ReadingFault, Seen as SeenFolder, committed, folder, goes_on_with, length_of,
-    span_of, times_of,
+    Listed, Prefix, ReadingFault, Seen as SeenFolder, begin_of, committed, folder, goes_on_with,
+    length_of, times_of,
 };
 use archive_times::{Join, Line, last_line};
 use disk_model::FileDisk;
 use fault_lines::Fault;
-use ogg_page::{FIXED_SIZE, PageSource, write_whole};
+use ogg_page::{FIXED_SIZE, PageSource};
 
 /// How many bytes are written at once.
 const TOGETHER: usize = 65536;
@@ -102,26 +101,15 @@ pub fn cut(
     until: Option<u64>,
     raw: bool,
 ) -> Result<(), Fault> {
-    let asked = Asked {
-        rt,
-        folder,
-        since,
-        until,
-        now: now(rt),
-    };
-    let finds = asked.find()?;
-    if finds.parts.is_empty() {
+    let mut finding = Finding::new(rt, folder, since, until)?;
+    finding.find_all()?;
+    let Some(mut cutting) = Cutting::of(finding, raw)? else {
         return Err(Fault::Nothing);
-    }
-    asked.tell(&finds, raw)?;
+    };
+    cutting.tell()?;
     let mut out = output(rt, TOGETHER)?;
-    let written = asked.write(finds, raw, &mut out);
+    let written = cutting.write(&mut out);
     flushed(written, &mut out, Fault::Write)
-}
-
-/// When the file was begun.
-fn begin_of(file: &Listed) -> u64 {
-    span_of(file.name, None, 0, 0).begin
 }
 
 pub(crate) fn push(parts: &mut Vec<Part>, part: Part) -> Result<(), Fault> {
@@ -131,28 +119,100 @@ pub(crate) fn push(parts: &mut Vec<Part>, part: Part) -> Result<(), Fault> {
     }
 }
 
-impl<'a> Asked<'a> {
-    /// Finds what is to be cut out of each file.
-    fn find(&self) -> Result<Finds, Fault> {
-        let seen = match folder(self.rt, self.folder) {
+/// What is to be cut out of an archive, as far as it is found: file after file is looked at.
+#[derive(Drop)]
+pub struct Finding<'a> {
+    pub(crate) asked: Asked<'a>,
+    seen: SeenFolder,
+    // the file that is looked at next
+    at: usize,
+    // pages are damaged, so that those of each file are looked at before
+    may_be_damaged: bool,
+    pub(crate) finds: Finds,
+}
+
+impl<'a> Finding<'a> {
+    /// Looks for what was recorded into the archive in the folder after `since` and not after `until`. No file is looked at
+    /// yet.
+    ///
+    /// It is `File` if the folder can't be read, and `Memory` if memory is refused.
+    pub fn new(
+        rt: &'a HostRuntime,
+        path: &'a str,
+        since: Option<u64>,
+        until: Option<u64>,
+    ) -> Result<Finding<'a>, Fault> {
+        let asked = Asked {
+            rt,
+            folder: path,
+            since,
+            until,
+            now: now(rt),
+        };
+        let seen = match folder(rt, path) {
             Ok(seen) => seen,
             Err(ReadingFault::Memory) => return Err(Fault::Memory),
             Err(_) => return Err(Fault::File),
         };
-        match self.find_among(&seen, false) {
-            Ok(finds) => Ok(finds),
+        let finds = asked.nothing();
+        Ok(Finding {
+            asked,
+            seen,
+            at: 0,
+            may_be_damaged: false,
+            finds,
+        })
+    }
+
+    /// Looks at the next file. It is true once all were looked at, and isn't called again then. If pages of one are damaged,
+    /// all files are looked at anew, and those that can't be cut are left out.
+    ///
+    /// It is `Memory` if memory is refused.
+    pub fn step(&mut self) -> Result<bool, Fault> {
+        match self.look() {
+            Ok(done) => Ok(done),
             Err(Stop::Failed(fault)) => Err(fault),
-            Err(Stop::Damaged) => match self.find_among(&seen, true) {
-                Ok(finds) => Ok(finds),
-                Err(Stop::Failed(fault)) => Err(fault),
-                Err(Stop::Damaged) => Err(Fault::File),
-            },
+            Err(Stop::Damaged) => {
+                if self.may_be_damaged {
+                    return Err(Fault::File);
+                }
+                self.may_be_damaged = true;
+                self.at = 0;
+                self.finds = self.asked.nothing();
+                Ok(false)
+            }
         }
     }
 
-    /// Finds it. If files may be damaged the pages of each are looked at before.
-    fn find_among(&self, seen: &SeenFolder, may_be_damaged: bool) -> Result<Finds, Stop> {
-        let mut finds = Finds {
+    fn look(&mut self) -> Result<bool, Stop> {
+        let files = self.seen.files.as_slice();
+        let Some(file) = files.get(self.at) else {
+            self.asked.count_waiting(&mut self.finds)?;
+            self.asked.end_air(&mut self.finds)?;
+            return Ok(true);
+        };
+        let next = files.get(self.at.saturating_add(1));
+        self.asked
+            .find_in(file, next, self.may_be_damaged, &mut self.finds)?;
+        self.at = self.at.saturating_add(1);
+        Ok(false)
+    }
+
+    /// Looks at all files.
+    fn find_all(&mut self) -> Result<(), Fault> {
+        for _ in 0..u64::MAX {
+            if self.step()? {
+                return Ok(());
+            }
+        }
+        Err(Fault::File)
+    }
+}
+
+impl<'a> Asked<'a> {
+    /// No file was looked at yet.
+    fn nothing(&self) -> Finds {
+        Finds {
             parts: Vec::new(self.rt.alloc()),
             waits: None,
             serials: Serials::new(self.rt.alloc()),
@@ -161,15 +221,7 @@ impl<'a> Asked<'a> {
             to: 0,
             gaps: Vec::new(self.rt.alloc()),
             air: Air::from(self.since),
-        };
-        let mut rest = seen.files.as_slice();
-        while let Some((file, others)) = rest.split_first() {
-            self.find_in(file, others.first(), may_be_damaged, &mut finds)?;
-            rest = others;
         }
-        self.count_waiting(&mut finds)?;
-        self.end_air(&mut finds)?;
-        Ok(finds)
     }
 
     /// Finds what is to be cut out of a file.
@@ -181,10 +233,10 @@ impl<'a> Asked<'a> {
         finds: &mut Finds,
     ) -> Result<(), Stop> {
         let later = match next {
-            Some(next) => begin_of(next),
+            Some(next) => begin_of(next.name),
             None => self.now,
         };
-        let is_asked = self.is_asked(begin_of(file), later);
+        let is_asked = self.is_asked(begin_of(file.name), later);
         let seen = if is_asked {
             self.see(file, later, may_be_damaged)?
         } else {
@@ -197,7 +249,7 @@ impl<'a> Asked<'a> {
             }
             None => {
                 if is_asked {
-                    finds.air.leave_out(file.name, begin_of(file));
+                    finds.air.leave_out(file.name, begin_of(file.name));
                 } else {
                     finds.air.pass(file.name);
                 }
@@ -245,7 +297,7 @@ impl<'a> Asked<'a> {
                 times,
                 line,
                 facts: Recorded {
-                    begin: begin_of(file),
+                    begin: begin_of(file.name),
                     later,
                     committed: source.end(),
                 },
@@ -422,22 +474,6 @@ impl<'a> Asked<'a> {
             Err(CutFault::Memory) => Err(Fault::Memory),
             _ => Ok(None),
         }
-    }
-
-    /// Tells what is in the cut, and each gap.
-    fn tell(&self, finds: &Finds, raw: bool) -> Result<(), Fault> {
-        let told = Told {
-            from: finds.from,
-            to: finds.to,
-            files: finds.parts.len() as u64,
-            links: finds.ends.links(),
-            bytes: finds.ends.bytes(raw),
-        };
-        let mut lines = Vec::new(self.rt.alloc());
-        or_memory(put_cut(told, &mut lines))?;
-        let _ = write_whole(&mut self.rt.stderr(), lines.as_slice());
-        let _ = write_whole(&mut self.rt.stderr(), finds.gaps.as_slice());
-        Ok(())
     }
 }
 

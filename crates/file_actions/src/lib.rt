@@ -25,7 +25,8 @@ mod serials;
 mod telling;
 mod verifying;
 
-pub use cutting::cut;
+pub use cut_parts::Cutting;
+pub use cutting::{Finding, cut};
 pub use files::{links, split};
 pub use finishing::finish;
 pub use listing::{list, list_text};

@@ -6,8 +6,8 @@ use crate::lines::{gap_line, put_damaged, put_file, twice_line};
 use crate::telling::{fault_of, is_memory, now, or_memory, what_of, write_all, write_many};
 use archive_names::{Kind, Name};
 use archive_reading::{
-    Listed, ReadingFault, Seen, Span, committed, folder, goes_on_with, is_gap, last_line_of,
-    length_of, overlaps, path_of, span_of,
+    Listed, ReadingFault, Seen, Span, begin_of, committed, folder, goes_on_with, is_gap,
+    last_line_of, length_of, overlaps, path_of, span_of,
 };
 use archive_times::Line;
 use fault_lines::Fault;
@@ -128,7 +128,7 @@ impl<'a> Asked<'a> {
         };
         let last = or_memory(last_line_of(self.rt, self.folder, file, length))?;
         let (bytes, later) = match next {
-            Some(next) => (length, span_of(next.name, None, 0, 0).begin),
+            Some(next) => (length, begin_of(next.name)),
             None => (self.committed_of(name, last, length)?, now),
         };
         let span = span_of(name, last, bytes, later);

@@ -9,7 +9,7 @@ use crate::paging::PageLines;
 use archive_cut::{Recorded, is_before, stood_at, time_of};
 use archive_names::Kind;
 use archive_reading::{
-    Listed, Prefix, ReadingFault, committed, folder, length_of, path_of, span_of, times_of,
+    Listed, Prefix, ReadingFault, begin_of, committed, folder, length_of, path_of, times_of,
 };
 use archive_times::{Line, last_line, next_line};
 use disk_model::{FileDisk, FileMode};
@@ -214,11 +214,6 @@ fn page_fault(offset: u64, fault: GatherFault) -> Fault
     }
 }
 
-/// The milliseconds since 1970 at which a file was begun, by its name.
-fn begin_of(file: &Listed) -> u64 {
-    span_of(file.name, None, 0, 0).begin
-}
-
 /// The milliseconds since 1970, or 0 if the clock can't be read.
 fn now(rt: &HostRuntime) -> u64 {
     let Ok(now) = SystemTime::now(rt) else {
@@ -286,10 +281,10 @@ impl Writing<'_> {
                 break;
             };
             let later = match others.first() {
-                Some(next) => begin_of(next),
+                Some(next) => begin_of(next.name),
                 None => now,
             };
-            if self.is_asked(begin_of(file), later) {
+            if self.is_asked(begin_of(file.name), later) {
                 match self.of_listed(path, file, later) {
                     Ok(()) => {}
                     Err(Fault::Open(_) | Fault::Index(_)) => self.tell_damaged(path, file)?,
@@ -340,7 +335,7 @@ impl Writing<'_> {
             Err(fault) => return Err(fault_of(fault)),
         };
         let facts = Recorded {
-            begin: begin_of(file),
+            begin: begin_of(file.name),
             later,
             committed: source.end(),
         };
