@@ -1,7 +1,8 @@
 #!/usr/bin/env bash
 # The player of a station in a headless Chromium, which is asked by its debugging protocol (browsing.py): what is recorded
-# plays, and so does a link, the list grows, and nothing is said on the console. Not part of the tests that ./check runs
-# without --media. With a folder as argument, pictures of the page are put there.
+# plays, and so does a link; the list grows; of a folder any time plays, and what is between two is fetched; nothing is
+# said on the console. Not part of the tests that ./check runs without --media. With a folder as argument, pictures of the
+# page are put there.
 #
 #     tests/player.sh [FOLDER]
 . "$(dirname "$0")/helpers/common.bash"
@@ -13,7 +14,7 @@ browser=$(command -v chromium || command -v google-chrome) || {
     finish
 }
 command -v ffmpeg >"$work/which" || { echo "no ffmpeg" >&2; exit 1; }
-timeout 300 python3 "$here/playing.py" "$program" "$browser" "$work" "$@" >"$work/out" 2>&1
+timeout 400 python3 "$here/playing.py" "$program" "$browser" "$work" "$@" >"$work/out" 2>&1
 status=$?
 cat "$work/out"
 passed=$(grep -c '^ok ' "$work/out")

@@ -10,9 +10,9 @@ use Rattle.serve_texts.specs.declared.player.TheConstants.{PLAYER_FRONT}
 abbrev pub policy : List ℕ
 policy =
     codes "Content-Security-Policy: default-src 'none'; media-src 'self'; connect-src 'self'; "
-    ++ codes "script-src 'sha256-5tRHjfYV6Gcn7zj1OWVReUyvHCvD/ZpwlV0fjFUAh+g='; "
-    ++ codes "style-src 'sha256-3pDcjRC5yy3sAgDRNaks7UqVcmHxMwcWhl3aPzChUEM='; "
-    ++ codes "base-uri 'none'; form-action 'none'; frame-ancestors 'none'"
+    ++ codes "script-src 'sha256-vD+OMKzJhF7c1gGJCtVBJLqD7/WjEVanQJNuDp2NlOQ='; "
+    ++ codes "style-src 'sha256-fnmlMuz5poEZAwqPet9hkI9DrOW/FqUb+EOtTaI/iDc='; "
+    ++ codes "base-uri 'none'; form-action 'self'; frame-ancestors 'none'"
 
 -- the fields before the length of the page. No cache keeps it (RFC 9111, section 5.2.2.5), and its type isn't guessed
 -- (Fetch, section 3.6).

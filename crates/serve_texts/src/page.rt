@@ -1,8 +1,9 @@
 //! The player: a page for a browser.
 //!
-//! Without scripts it is a plain page that plays `/live` and has links. With its script it says whether something is
-//! recorded, and lists the links of the file, each to be played or fetched. Nothing of it comes from elsewhere. What it
-//! asks for stands beside it, so that it works under any path that another server gives a station.
+//! Without scripts it is a plain page that plays `/live`, asks for a time, and has links. With its script it says whether
+//! something is recorded, and lists the links of the file, each to be played or fetched. Of a folder it shows the days and
+//! hours that are kept, plays from any time on, and fetches what was recorded between two times. Nothing of it comes from
+//! elsewhere. What it asks for stands beside it, so that it works under any path that another server gives a station.
 //!
 //! The policy in `player.rt`, and that in `specs/Player.antt`, has the hashes of the page's style and of its script. With
 //! another style or script they have others: for what stands between the tags, `openssl dgst -sha256 -binary | base64`
@@ -46,7 +47,7 @@ h3, p {
 #list ul, .small {
   font-size: 0.875rem;
 }
-.actions {
+.actions, form {
   display: flex;
   flex-wrap: wrap;
   gap: 1rem;
@@ -60,6 +61,23 @@ nav a {
   display: inline-block;
   padding: 0.25rem 0;
 }
+.line {
+  display: flex;
+  flex-wrap: wrap;
+  gap: 0.25rem;
+  margin: 0.5rem 0;
+}
+.line button {
+  padding: 0.25rem 0.5rem;
+}
+button[aria-pressed="true"] {
+  font-weight: bold;
+  text-decoration: underline;
+}
+input {
+  font: inherit;
+  max-width: 100%;
+}
 </style>
 </head>
 <body>
@@ -69,6 +87,24 @@ nav a {
 <h2 id="live-title">Live</h2>
 <p id="state" role="status" aria-live="polite"></p>
 <audio id="live" controls preload="none" src="live" aria-label="What is recorded now"></audio>
+<p class="actions" id="back" hidden><span id="playing" role="status" aria-live="polite"></span>
+<button type="button" id="to-live">Back to live</button></p>
+</section>
+<section id="past" aria-labelledby="past-title">
+<h2 id="past-title">What was on the air</h2>
+<div id="days" class="line" role="group" aria-label="Days"></div>
+<div id="hours" class="line" role="group" aria-label="Hours of the day"></div>
+<form id="then" action="from/" method="get">
+<label>From <input type="datetime-local" name="at" step="1" required></label>
+<button>Play</button>
+</form>
+<form id="between" hidden>
+<label>From <input type="datetime-local" id="since" step="1"></label>
+<button type="button" id="set-since">What plays now</button>
+<label>to <input type="datetime-local" id="until" step="1"></label>
+<button type="button" id="set-until">What plays now</button>
+<a id="cut" download hidden>Download what is between</a>
+</form>
 </section>
 <section id="recorded" aria-labelledby="recorded-title" hidden>
 <h2 id="recorded-title">Recorded</h2>
@@ -82,6 +118,7 @@ nav a {
 <li><a href="live">What is recorded now</a></li>
 <li><a href="all">All that was recorded</a></li>
 <li><a href="./">List of what was recorded</a></li>
+<li><a href="files">Files and their times</a></li>
 <li><a href="status">Numbers of the station</a></li>
 </ul>
 </nav>
@@ -126,13 +163,21 @@ live.addEventListener("play", () => {
   wanted = true;
 });
 
+// The time from which on it plays, in milliseconds since 1970, or none if it plays what is live.
+let from = null;
+// Where the sound stood when the first of it was played.
+let origin = null;
+
+const pathOf = (time) => "from/" + new Date(time).toISOString();
+
 // Lets go of the stream. What is played next is what is recorded then.
 function letGo() {
-  live.src = "live";
+  origin = null;
+  live.src = from === null ? "live" : pathOf(from);
 }
 
 live.addEventListener("pause", () => {
-  if (live.ended || live.error) return;
+  if (live.ended || live.error || from !== null) return;
   wanted = false;
   letGo();
 });
@@ -142,6 +187,7 @@ function playAgain() {
   retry = setTimeout(() => {
     retry = 0;
     if (!wanted) return;
+    if (from !== null) from = playsNow();
     letGo();
     live.play().catch(() => {});
   }, 3000);
@@ -174,6 +220,118 @@ function sayState(status) {
   say(byId("state"), "On the air since " + new Date(since).toLocaleString([], {
     dateStyle: "medium", timeStyle: "short",
   }) + ".");
+}
+
+// ---- what was on the air
+
+const hour = 3600000;
+let files = [];
+let day = "";
+
+const dayOf = (time) => new Date(time).toLocaleDateString([], { dateStyle: "medium" });
+
+live.addEventListener("playing", () => {
+  if (origin === null) origin = live.currentTime;
+});
+
+// Which time plays now.
+function playsNow() {
+  if (from === null) return Date.now();
+  return Math.min(from + 1000 * (origin === null ? 0 : live.currentTime - origin), Date.now());
+}
+
+function playFrom(time) {
+  from = time;
+  wanted = true;
+  letGo();
+  byId("back").hidden = time === null;
+  if (time !== null) say(byId("playing"), "From " + new Date(time).toLocaleString([], {
+    dateStyle: "medium", timeStyle: "medium",
+  }));
+  live.play().catch(() => {});
+}
+
+byId("to-live").addEventListener("click", () => playFrom(null));
+
+byId("then").addEventListener("submit", (event) => {
+  event.preventDefault();
+  const time = new Date(byId("then").elements.at.value).getTime();
+  if (!Number.isNaN(time)) playFrom(time);
+});
+
+// Has a line these buttons: each its text, whether it is chosen, and what it does.
+function showLine(line, buttons) {
+  while (line.children.length > buttons.length) line.lastChild.remove();
+  buttons.forEach(([text, chosen, act], index) => {
+    const button = line.children[index] || add(line, "button");
+    button.type = "button";
+    say(button, text);
+    button.setAttribute("aria-pressed", chosen);
+    button.onclick = act;
+  });
+}
+
+function showHours() {
+  const hours = new Map();
+  for (const { begin, end } of files) {
+    for (let time = begin; time <= end; time = Math.floor(time / hour + 1) * hour) {
+      if (dayOf(time) === day) {
+        const name = new Date(time).toLocaleTimeString([], { hour: "2-digit", minute: "2-digit" });
+        if (!hours.has(Math.floor(time / hour))) hours.set(Math.floor(time / hour), [name, time]);
+      }
+    }
+  }
+  showLine(byId("hours"), [...hours.values()].map(([name, time]) => [name, false, () => playFrom(time)]));
+}
+
+function showDays() {
+  const days = [];
+  for (const { begin, end } of files) {
+    for (let time = begin; time < end + 24 * hour; time += 24 * hour) {
+      const name = dayOf(Math.min(time, end));
+      if (days[days.length - 1] !== name) days.push(name);
+    }
+  }
+  if (!days.includes(day)) day = days[days.length - 1] || "";
+  showLine(byId("days"), days.map((name) => [name, name === day, () => {
+    day = name;
+    showDays();
+  }]));
+  showHours();
+}
+
+// The files of a list, with their times.
+function filesOf(list) {
+  return list.split("\n").map((line) => line.split(" ")).filter((words) => words[0] === "file").map((words) => (
+    { begin: Date.parse(words[2]), end: Date.parse(words[3]) }));
+}
+
+// The value of a field for this time: as the clock here shows it.
+function fieldOf(time) {
+  const shown = new Date(time - 60000 * new Date(time).getTimezoneOffset());
+  return shown.toISOString().slice(0, 19);
+}
+
+function showCut() {
+  const [since, until] = ["since", "until"].map((id) => new Date(byId(id).value).getTime());
+  const good = since < until && until <= Date.now();
+  byId("cut").hidden = !good;
+  if (good) byId("cut").href = pathOf(since) + "/to/" + new Date(until).toISOString();
+}
+
+for (const id of ["since", "until"]) {
+  byId(id).addEventListener("input", showCut);
+  byId("set-" + id).addEventListener("click", () => {
+    byId(id).value = fieldOf(playsNow());
+    showCut();
+  });
+}
+
+// A station over one file lists none.
+async function refreshFiles() {
+  files = filesOf(await textOf("files"));
+  byId("past").hidden = byId("between").hidden = !files.length;
+  showDays();
 }
 
 // ---- what was recorded
@@ -262,6 +420,7 @@ async function refresh() {
     if (!document.hidden) {
       sayState(await textOf("status"));
       showLinks(linksOf(await textOf("./")));
+      await refreshFiles();
     }
   } catch (fault) {
     since = 0;

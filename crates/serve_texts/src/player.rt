@@ -12,9 +12,9 @@ pub const PLAYER_FRONT: &[u8] = b"HTTP/1.1 200 OK\r\n\
     Cache-Control: no-store\r\n\
     X-Content-Type-Options: nosniff\r\n\
     Content-Security-Policy: default-src 'none'; media-src 'self'; connect-src 'self'; \
-    script-src 'sha256-5tRHjfYV6Gcn7zj1OWVReUyvHCvD/ZpwlV0fjFUAh+g='; \
-    style-src 'sha256-3pDcjRC5yy3sAgDRNaks7UqVcmHxMwcWhl3aPzChUEM='; \
-    base-uri 'none'; form-action 'none'; frame-ancestors 'none'\r\n\
+    script-src 'sha256-vD+OMKzJhF7c1gGJCtVBJLqD7/WjEVanQJNuDp2NlOQ='; \
+    style-src 'sha256-fnmlMuz5poEZAwqPet9hkI9DrOW/FqUb+EOtTaI/iDc='; \
+    base-uri 'none'; form-action 'self'; frame-ancestors 'none'\r\n\
     Connection: close\r\n";
 
 /// Appends the whole response to `GET`, or to `HEAD`, which gets no page. After `Memory` the vector is unchanged.
