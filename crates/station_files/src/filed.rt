@@ -2,7 +2,7 @@
 ghost use Rattle.std.specs.Prelude.{◌≡◌, IfOk, false};
 ghost use Rattle.archive_record.specs.Files.{AllKept};
 
-use crate::seats::Stations;
+use crate::seats::{Next, Stations};
 use archive_folder::{FileName, Folder};
 use archive_record::{ArchiveFault, Beside, Damage, Rotation, Rules};
 use archive_times::Join;
@@ -259,7 +259,7 @@ impl<D: Disk + Drop, F: Folder<File = D> + Drop> Filed<F> {
         let (name, recorder) = self.rotation.begin(goes_on, day, beside)?;
         self.name = name;
         let hub = hub_over(self.alloc, recorder, self.most)?;
-        stations.change(live_over(self.alloc, hub)?);
+        stations.change(live_over(self.alloc, hub)?, Next::Another);
         let answered = begin_link(stations, serials, is_lost)?;
         self.rotation.throw_away(day, beside);
         Ok(answered)
@@ -328,7 +328,7 @@ impl<D: Disk + Drop, F: Folder<File = D> + Drop> Filed<F> {
         requires { recorder.held ≡ 0 }
     {
         let hub = hub_over(self.alloc, recorder, self.most)?;
-        stations.change(live_over(self.alloc, hub)?);
+        stations.change(live_over(self.alloc, hub)?, Next::Same);
         self.opened(stations, clocks.day, beside);
         Ok(stations.newest_mut().resume(clocks.steady))
     }

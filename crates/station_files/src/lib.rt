@@ -2,7 +2,8 @@
 //!
 //! A `Station` serves one file. `Stations` has the one whose file is recorded, and one more for each file that has ended and
 //! is read still: a session gets the rest of its own answer there, and a listener hears the file to its end, and then the
-//! next one from its first page on. Who reads a file that has ended is told by its `Seat`.
+//! next one from its first page on. Of a file that was opened again after a fault it hears on where that left off. Who reads
+//! a file that was left is told by its `Seat`.
 //!
 //! `Filed` has the folder (`Rotation` of archive_record). It says when the next file is begun, and changes the station's
 //! file for it: what is open is ended and kept, the file is cut to its pages, and the link that the source has open begins

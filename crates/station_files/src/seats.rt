@@ -73,11 +73,21 @@ pub struct Move {
     pub to: Option<Seat>,
 }
 
-/// A station over a file that has ended.
+/// What is recorded after a file is left.
+#[derive(Clone, Copy, Debug, PartialEq, Eq)]
+pub enum Next {
+    /// Another file: who has heard all of the one before hears it from its first page on.
+    Another,
+    /// The same file, opened again: who has heard all that it had goes on where that ends.
+    Same,
+}
+
+/// A station over a file that has ended, or that was left.
 #[derive(Drop)]
 struct Past<D: Disk> {
     number: u64,
     station: Station<D>,
+    next: Next,
 }
 
 /// The station whose file is recorded, and stations over files that have ended, in the order of their files.
@@ -114,14 +124,17 @@ fn enter<D: Disk + Drop>(station: &mut Station<D>, number: u64, client: Client) 
     }
 }
 
-/// A connection that has heard all of a file enters the station over the next one, and hears that from its first page on.
+/// A connection that has heard all of a file enters the station over the next one.
 fn enter_next<D: Disk + Drop>(
     station: &mut Station<D>,
     number: u64,
     client: Client,
+    next: Next,
 ) -> Option<Seat> {
     let seat = enter(station, number, client)?;
-    station.hear_anew(seat.key);
+    if next == Next::Another {
+        station.hear_anew(seat.key);
+    }
     Some(seat)
 }
 
@@ -306,10 +319,10 @@ impl<D: Disk + Drop> Stations<D> {
         self.moves.reserve(self.newest.keys())
     }
 
-    /// The file that was recorded has ended, and `live` has the next one: it is recorded and served from now on. Who reads
-    /// the one before goes on to, at a station of its own. It has one also if nobody reads it, while an older one is read:
-    /// who hears that comes to this one next.
-    pub fn change(&mut self, live: LiveHub<D>) {
+    /// The file that was recorded is left, and `live` has the next one, or the same, opened again: it is recorded and served
+    /// from now on. Who reads the one before goes on to, at a station of its own. It has one also if nobody reads it, while an
+    /// older one is read: who hears that comes to this one next.
+    pub fn change(&mut self, live: LiveHub<D>, next: Next) {
         if !self.is_read() && self.past.is_empty() {
             self.newest.change(live);
             return;
@@ -319,7 +332,11 @@ impl<D: Disk + Drop> Stations<D> {
         self.last = number;
         match Station::over(self.alloc, before, self.newest.keys()) {
             Ok(station) => {
-                let mut past = Past { number, station };
+                let mut past = Past {
+                    number,
+                    station,
+                    next,
+                };
                 self.send_readers(&mut past);
                 let _ = self.past.push(past);
             }
@@ -352,29 +369,29 @@ impl<D: Disk + Drop> Stations<D> {
         let _ = self.moves.push(Move { from, to });
     }
 
-    /// After a turn of this connection: if it has heard all of a file that has ended it hears the next one from its first
-    /// page on, at another seat.
+    /// After a turn of this connection: if it has heard all of a file that was left it hears what follows, at another seat.
     pub fn move_on(&mut self, seat: Seat) {
         let Some(at) = place_of(self.past.as_slice(), seat.station) else {
             return;
         };
-        let Some(client) = self.leave(at, seat.key) else {
+        let Some((client, next)) = self.leave(at, seat.key) else {
             return;
         };
         let to = match self.past.get_mut(at.saturating_add(1)) {
-            Some(next) => enter_next(&mut next.station, next.number, client),
-            None => enter_next(&mut self.newest, 0, client),
+            Some(past) => enter_next(&mut past.station, past.number, client, next),
+            None => enter_next(&mut self.newest, 0, client, next),
         };
         let _ = self.moves.push(Move { from: seat, to });
     }
 
-    /// A connection leaves a station over a file that has ended, if it has heard all of that.
-    fn leave(&mut self, at: usize, key: usize) -> Option<Client> {
+    /// A connection leaves a station over a file that was left, if it has heard all of that. It returns what follows.
+    fn leave(&mut self, at: usize, key: usize) -> Option<(Client, Next)> {
         let past = self.past.get_mut(at)?;
         if !past.station.has_heard_all(key) {
             return None;
         }
-        past.station.leave(key)
+        let client = past.station.leave(key)?;
+        Some((client, past.next))
     }
 
     /// A file that has ended is closed once nobody reads it or an older one.

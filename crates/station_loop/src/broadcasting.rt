@@ -6,6 +6,7 @@ use crate::filing::{Files, OneFile, Recorded, SystemReaders, fault_of};
 use crate::running::Running;
 use crate::sockets::Sockets;
 use archive_actions::{Filing, Keeper, granted, is_folder, lock_folder, now, with_slash};
+use archive_clock::SystemZone;
 use archive_fetch::Fetches;
 use archive_folder::{Folder, SystemFolder};
 use archive_record::{ArchiveNames, Rules};
@@ -18,6 +19,7 @@ use serve_actions::{Log, close_hub, hear_file, read_password, tell_serving};
 use serve_hub::Hub;
 use station::{Options as StationOptions, Station};
 use station_files::{Filed, Readers, Stations};
+use std::collections::HashMap;
 use std::net::SocketAddr;
 use std::time::Instant;
 
@@ -149,6 +151,8 @@ fn run_at<'a, D: Disk + Drop, R: Recorded<D> + Drop>(
         sockets,
         fetches,
         listed: Listed::new(Vec::new(rt.alloc())),
+        cuts: HashMap::new(rt.alloc()),
+        zone: SystemZone::read(rt),
         start,
         now: 0,
     };

@@ -1,14 +1,21 @@
-//! Files of a folder that are fetched, and their list.
+//! What is fetched of a folder: its files, their list, and what was recorded from a time on or between two.
+ghost use Rattle.ogg_http.specs.Answer.{AnswerFits};
 
+use crate::cutting::{Cutout, FAILED};
 use crate::filing::Recorded;
+use crate::hearing::Unheard;
 use crate::running::Running;
 use crate::sockets::trouble;
 use crate::telling::seconds;
+use archive_actions::now;
 use archive_fetch::{
-    Body, FileFacts, Memory, Wish, asked_of, condition_in, head_of, is_had, list_answer, reply_to,
+    Body, Content, LIVE, Memory, Reply, Wish, asked_of, condition_in, head_of, is_had, list_answer,
+    may_ask, past_time, refusal_of, reply_to,
 };
 use disk_model::Disk;
-use file_actions::list_text;
+use fault_lines::Fault;
+use file_actions::{Finding, list_text};
+use jiff::tz::TimeZone;
 use ogg_http::{Answer, Request, Verb, response_head};
 use station::After;
 use station_files::{Move, Seat};
@@ -41,14 +48,26 @@ fn front_of(bytes: &[u8], count: usize) -> &[u8] {
     front
 }
 
-/// An answer: a text, and the file whose bytes follow it.
+/// An answer: a text, what follows it, and where that comes from if it is a cut.
 #[derive(Drop)]
-struct Told<D: Disk> {
+struct Told<'a, D: Disk> {
     text: Vec<u8>,
-    body: Option<Body<D>>,
+    content: Option<Content<D>>,
+    cut: Option<Cutout<'a>>,
 }
 
-impl<D: Disk + Drop, R: Recorded<D> + Drop> Running<'_, D, R> {
+impl<'a, D: Disk> Told<'a, D> {
+    /// A text that nothing follows.
+    fn text(text: Vec<u8>) -> Told<'a, D> {
+        Told {
+            text,
+            content: None,
+            cut: None,
+        }
+    }
+}
+
+impl<'a, D: Disk + Drop, R: Recorded<D> + Drop> Running<'a, D, R> {
     /// The seats of those who fetch files get one turn each.
     pub(crate) fn serve_fetches(&mut self) {
         for _ in 0..self.fetches.turns() {
@@ -59,19 +78,42 @@ impl<D: Disk + Drop, R: Recorded<D> + Drop> Running<'_, D, R> {
         }
     }
 
-    /// A turn of a connection that fetches a file: one read, and one write.
+    /// A turn of a connection that fetches something: one read, and one write.
     fn fetch_turn(&mut self, seat: Seat) {
+        self.read_fetch(seat);
+        self.hear_on(seat.key);
+        if self.fetches.needs(seat.key) {
+            self.supply(seat.key);
+        }
+        self.write_fetch(seat);
+        match self.fetches.turned(seat.key, self.now) {
+            After::Goes => {}
+            After::Shuts => self.sockets.shut(seat),
+            After::Closes => self.close_fetch(seat),
+        }
+    }
+
+    /// Reads what a connection sends that fetches something: it is passed over.
+    fn read_fetch(&mut self, seat: Seat) {
+        if !self.fetches.reads(seat.key) {
+            return;
+        }
+        let Some(connection) = self.sockets.connections.get(&seat.token()) else {
+            return;
+        };
+        match (&connection.stream).read(self.sockets.buffer.as_mut_slice()) {
+            Ok(0) => self.fetches.peer_ended(seat.key),
+            Ok(_) => self.fetches.passed(seat.key),
+            Err(error) => self.fetches.read_failed(seat.key, trouble(&error)),
+        }
+    }
+
+    /// Writes the next bytes of what it fetches.
+    fn write_fetch(&mut self, seat: Seat) {
         let Some(connection) = self.sockets.connections.get(&seat.token()) else {
             return;
         };
         let buffer = self.sockets.buffer.as_mut_slice();
-        if self.fetches.reads(seat.key) {
-            match (&connection.stream).read(buffer) {
-                Ok(0) => self.fetches.peer_ended(seat.key),
-                Ok(_) => self.fetches.passed(seat.key),
-                Err(error) => self.fetches.read_failed(seat.key, trouble(&error)),
-            }
-        }
         if self.fetches.writes(seat.key) {
             let count = self.fetches.next(seat.key, buffer, self.now);
             if count > 0 {
@@ -85,16 +127,12 @@ impl<D: Disk + Drop, R: Recorded<D> + Drop> Running<'_, D, R> {
                 }
             }
         }
-        match self.fetches.turned(seat.key, self.now) {
-            After::Goes => {}
-            After::Shuts => self.sockets.shut(seat),
-            After::Closes => self.close_fetch(seat),
-        }
     }
 
     /// The connection is closed, and told in the log.
     fn close_fetch(&mut self, seat: Seat) {
         let visit = self.fetches.closed(seat.key);
+        let _ = self.cuts.remove(&seat.key);
         if let Some(connection) = self.sockets.connections.remove(&seat.token()) {
             if let Some(visit) = visit {
                 self.log
@@ -104,13 +142,17 @@ impl<D: Disk + Drop, R: Recorded<D> + Drop> Running<'_, D, R> {
     }
 
     /// So many bytes of the buffer have come of a connection. If it asks for something of the folder it gets that at another
-    /// seat; the station takes all else.
+    /// seat; the station takes all else, once it can be nothing of the folder.
     pub(crate) fn received(&mut self, seat: Seat, count: usize) {
-        if seat.station == 0 && self.recorded.is_folder() {
+        if seat.station == 0 {
             if let Some(front) = self.head_so_far(seat.key, count) {
                 if let Some((request, wish)) = asked_of(front.as_slice()) {
                     let condition = condition_in(front.as_slice());
                     return self.fetch(seat, count, &request, wish, condition);
+                }
+                if may_ask(front.as_slice()) {
+                    let bytes = front_of(self.sockets.buffer.as_slice(), count);
+                    return self.stations.newest_mut().hold(seat.key, bytes);
                 }
             }
         }
@@ -137,43 +179,105 @@ impl<D: Disk + Drop, R: Recorded<D> + Drop> Running<'_, D, R> {
         seat: Seat,
         count: usize,
         request: &Request<'_>,
-        wish: Wish,
+        wish: Wish<'_>,
         condition: Option<&[u8]>,
     ) {
-        let told = match wish {
-            Wish::Files => self.list(request),
-            Wish::File(number) => self.file(request, number, condition),
-        };
+        let told = self.answer(request, wish, condition);
         let Some(mut client) = self.stations.newest_mut().leave(seat.key) else {
             return;
         };
         client.note_heard(front_of(self.sockets.buffer.as_slice(), count));
-        let entered = match told {
-            Ok(Told { text, body }) => self.fetches.enter(client, text.as_slice(), body, self.now),
-            Err(memory) => Err(memory),
-        };
-        let to = match entered {
-            Ok(key) => Some(Seat::of_fetch(key)),
+        let to = match told {
+            Ok(Told { text, content, cut }) => {
+                match self
+                    .fetches
+                    .enter(client, text.as_slice(), content, self.now)
+                {
+                    Ok(key) => Some(self.kept(key, cut)),
+                    Err(_) => None,
+                }
+            }
             Err(_) => None,
         };
         if self.sockets.moved(Move { from: seat, to }).is_some() {
             if let Some(to) = to {
                 let _ = self.fetches.closed(to.key);
+                let _ = self.cuts.remove(&to.key);
             }
         }
     }
 
-    /// The list of the files.
-    fn list(&mut self, request: &Request<'_>) -> Result<Told<D>, Memory> {
+    /// The seat of a connection that fetches something. A cut that it gets is kept; without memory for that it is cut off.
+    fn kept(&mut self, key: usize, cut: Option<Cutout<'a>>) -> Seat {
+        if let Some(cut) = cut {
+            if self.cuts.insert(key, cut).is_err() {
+                self.fetches.cut(key);
+            }
+        }
+        Seat::of_fetch(key)
+    }
+
+    /// What a request is answered.
+    fn answer(
+        &mut self,
+        request: &Request<'_>,
+        wish: Wish<'_>,
+        condition: Option<&[u8]>,
+    ) -> Result<Told<'a, D>, Memory> {
+        if let Some(refusal) = refusal_of(request) {
+            return self.refused(refusal);
+        }
+        match wish {
+            Wish::Files => self.list(request),
+            _ if !self.recorded.is_folder() => self.refused(Answer::NotFound),
+            Wish::File(number) => self.file(request, number, condition),
+            Wish::From(since) => match self.time_of(since) {
+                Some(since) => self.from(request, since),
+                None => self.refused(Answer::NotFound),
+            },
+            Wish::Between(since, until) => match (self.time_of(since), self.time_of(until)) {
+                (Some(since), Some(until)) => self.between(request, since, until),
+                _ => self.refused(Answer::NotFound),
+            },
+        }
+    }
+
+    /// The time that a part of a path asks for, if it isn't yet to come.
+    fn time_of(&self, text: &[u8]) -> Option<u64> {
+        let now = now(self.rt);
+        match &self.zone {
+            Some(zone) => past_time(text, now, &zone.zone()),
+            None => past_time(text, now, &TimeZone::UTC),
+        }
+    }
+
+    fn refused(&self, answer: Answer) -> Result<Told<'a, D>, Memory>
+        requires { AnswerFits answer }
+    {
+        let mut text = Vec::new(self.rt.alloc());
+        response_head(&answer, &mut text)?;
+        Ok(Told::text(text))
+    }
+
+    /// The folder can't be read.
+    fn failed(&self) -> Result<Told<'a, D>, Memory> {
+        let mut text = Vec::new(self.rt.alloc());
+        text.extend_from_slice(FAILED)?;
+        Ok(Told::text(text))
+    }
+
+    /// The list of the files. There are none beside one file.
+    fn list(&mut self, request: &Request<'_>) -> Result<Told<'a, D>, Memory> {
         let is_old = match self.listed.since {
             Some(since) => LISTED <= self.now.saturating_sub(since),
             None => true,
         };
-        if is_old {
+        if is_old && self.recorded.is_folder() {
             self.listed.since = None;
             match list_text(self.rt, self.keeper.folder()) {
                 Ok(text) => self.listed.text = text,
-                Err(_) => return Err(Memory),
+                Err(Fault::Memory) => return Err(Memory),
+                Err(_) => return self.failed(),
             }
             self.listed.since = Some(self.now);
         }
@@ -181,10 +285,10 @@ impl<D: Disk + Drop, R: Recorded<D> + Drop> Running<'_, D, R> {
         let answer = list_answer(request, list.len() as u64);
         let mut text = Vec::new(self.rt.alloc());
         response_head(&answer, &mut text)?;
-        if let (Verb::Get, Answer::Listing(_)) = (request.verb, answer) {
+        if request.verb == Verb::Get {
             text.extend_from_slice(list)?;
         }
-        Ok(Told { text, body: None })
+        Ok(Told::text(text))
     }
 
     /// A file of the folder.
@@ -193,10 +297,10 @@ impl<D: Disk + Drop, R: Recorded<D> + Drop> Running<'_, D, R> {
         request: &Request<'_>,
         number: u64,
         condition: Option<&[u8]>,
-    ) -> Result<Told<D>, Memory> {
-        let Some((file, source)) = self.recorded.file(number, self.stations.newest().hub()) else {
-            let text = head_of(self.rt.alloc(), reply_to(request, false, None))?;
-            return Ok(Told { text, body: None });
+    ) -> Result<Told<'a, D>, Memory> {
+        let hub = self.stations.newest().hub();
+        let Some((file, source)) = self.recorded.file(number, hub) else {
+            return self.refused(Answer::NotFound);
         };
         let had = match condition {
             Some(value) => is_had(value, file),
@@ -206,7 +310,56 @@ impl<D: Disk + Drop, R: Recorded<D> + Drop> Running<'_, D, R> {
         let text = head_of(self.rt.alloc(), reply)?;
         Ok(Told {
             text,
-            body: Some(Body::of(source, request.verb, reply)),
+            content: match reply {
+                Reply::Found(..) => Some(Content::File(Body::of(source, request.verb, reply))),
+                _ => None,
+            },
+            cut: None,
+        })
+    }
+
+    /// What was recorded from a time on, and goes on.
+    fn from(&mut self, request: &Request<'_>, since: u64) -> Result<Told<'a, D>, Memory> {
+        let heard = match self.heard_from(since) {
+            Ok(Some(heard)) => heard,
+            Ok(None) => return self.refused(Answer::NotFound),
+            Err(Unheard::Memory) => return Err(Memory),
+            Err(Unheard::Folder) => return self.failed(),
+        };
+        let mut text = Vec::new(self.rt.alloc());
+        text.extend_from_slice(LIVE)?;
+        Ok(Told {
+            text,
+            content: if request.verb == Verb::Get {
+                Some(Content::Heard(heard))
+            } else {
+                None
+            },
+            cut: None,
+        })
+    }
+
+    /// What was recorded between two times: its head comes once all of it is found.
+    fn between(
+        &mut self,
+        request: &Request<'_>,
+        since: u64,
+        until: u64,
+    ) -> Result<Told<'a, D>, Memory> {
+        let alloc = self.rt.alloc();
+        let finding = match Finding::new(self.rt, self.keeper.folder(), Some(since), Some(until)) {
+            Ok(finding) => finding,
+            Err(Fault::Memory) => return Err(Memory),
+            Err(_) => return self.failed(),
+        };
+        let range = match request.range {
+            Some(range) => Some(range.to_vec(alloc)?),
+            None => None,
+        };
+        Ok(Told {
+            text: Vec::new(alloc),
+            content: Some(Content::Given),
+            cut: Some(Cutout::new(alloc, finding, request.verb, range)),
         })
     }
 }

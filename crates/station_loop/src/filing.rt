@@ -43,6 +43,9 @@ pub trait Recorded<D: Disk> {
     /// The file of the folder with this number, to be read, and how it stands: all of it that is committed, by the hub over
     /// the newest. None if there is no such file, or more than one.
     fn file(&mut self, number: u64, hub: &Hub<D>) -> Option<(FileFacts, Prefix<D>)>;
+
+    /// The number of the file that is recorded.
+    fn newest(&self) -> u64;
 }
 
 /// One file.
@@ -75,6 +78,10 @@ impl<D: Disk> Recorded<D> for OneFile {
 
     fn file(&mut self, _number: u64, _hub: &Hub<D>) -> Option<(FileFacts, Prefix<D>)> {
         None
+    }
+
+    fn newest(&self) -> u64 {
+        0
     }
 }
 
@@ -149,6 +156,10 @@ impl<D: Disk + Drop, F: Folder<File = D> + Drop, R: Readers<D> + Drop> Recorded<
         };
         Some((file, whole.up_to(bytes)))
     }
+
+    fn newest(&self) -> u64 {
+        self.filed.name().number
+    }
 }
 
 impl<D: Disk + Drop, F: Folder<File = D> + Drop, R: Drop> Files<F, R> {
@@ -163,6 +174,8 @@ impl<D: Disk + Drop, F: Folder<File = D> + Drop, R: Drop> Files<F, R> {
                     Err(Fault::Seal)
                 }
             }
+            // There is no file left that could be sealed.
+            Err(_) if seal => Err(Fault::Failed),
             _ => Ok(()),
         }
     }

@@ -8,8 +8,10 @@
 #![tactic(auto)]
 
 mod broadcasting;
+mod cutting;
 mod fetching;
 mod filing;
+mod hearing;
 mod refusing;
 mod running;
 mod sockets;

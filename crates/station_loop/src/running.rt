@@ -1,10 +1,12 @@
 //! A station that runs: round after round bytes go between its sockets and the machine, which decides everything.
 
+use crate::cutting::Cutout;
 use crate::fetching::Listed;
 use crate::filing::Recorded;
 use crate::sockets::{Connection, Sockets, trouble};
 use crate::telling::{seconds, tell_done};
 use archive_actions::{Keeper, now};
+use archive_clock::SystemZone;
 use archive_fetch::Fetches;
 use disk_model::Disk;
 use fault_lines::Fault;
@@ -12,6 +14,7 @@ use import_record::RecordFault;
 use serve_actions::{Log, tell_foreign};
 use station::{After, Done, FULL, Feeder, Trouble, station_line};
 use station_files::{Clocks, Seat, Stations};
+use std::collections::HashMap;
 use std::io::{self, Read, Write};
 use std::net::{Shutdown, SocketAddr};
 use std::time::Instant;
@@ -32,6 +35,10 @@ pub struct Running<'a, D: Disk + Drop, R: Recorded<D> + Drop> {
     /// Who fetches files of the folder, and the list of these.
     pub fetches: Fetches<D>,
     pub listed: Listed,
+    /// The cuts that connections get, by their keys.
+    pub cuts: HashMap<usize, Cutout<'a>>,
+    /// The zone in which times without an offset are asked for, UTC if there is none.
+    pub zone: Option<SystemZone>,
     pub log: Log,
     /// The greatest number of connections.
     pub most: usize,
