@@ -85,9 +85,19 @@ before=$(md5sum <"$own")
 archive "$own" "$work/locked"
 came "a file of the folder itself" 1 '' 'fault archive 1 Read\n'
 check "a file of the folder itself: nothing is done" [ "$(md5sum <"$own") $(numbers "$work/locked")" = "$before 1 " ]
+ln -s "$work/locked" "$work/way"
+archive "$own" "$work/way"
+came "by another way into the folder" 1 '' 'fault archive 1 Read\n'
+ln "$own" "$work/other"
+archive "$work/other" "$work/locked"
+came "by another name of the file" 1 '' 'fault archive 1 Read\n'
+rm "$work/other"
 cp "$own" "$work/copy"
 archive "$work/copy" "$work/locked"
 check "a copy of it is recorded: status $status" [ "$status" -eq 0 ]
+ln "$work/copy" "$work/copied"
+archive "$work/copied" "$work/locked"
+check "and one that has two names: status $status" [ "$status" -eq 0 ]
 
 # What can't be gone on with is left as it is.
 damaged() {
@@ -219,6 +229,11 @@ check "a file that stays: the next one goes" grep -q '^file 2 removed ' "$work/e
 cc -O2 -shared -fPIC -D_GNU_SOURCE -o "$work/filling.so" "$here/filling.c" || exit 1
 told=$(filing fills "$program" "$work/filling.so" "$work")
 check "a full device: $told" grep -qxE '[0-9]+ runs, 0 wrong' <<<"${told##*$'\n'}"
+
+# Each device call fails in turn, or the program stops before it, those of rotations among them.
+cc -O2 -shared -fPIC -D_GNU_SOURCE -o "$work/failing.so" "$here/failing.c" || exit 1
+told=$(filing fails "$program" "$work/failing.so" "$work")
+check "each device call: $told" grep -qxE '[0-9]+ runs, 0 wrong' <<<"${told##*$'\n'}"
 
 # Kills at any moment.
 told=$(filing kills "$program" "$work" "${KILLS:-30}")

@@ -12,7 +12,7 @@ use fault_lines::Fault;
 use import_record::RecordFault;
 use record_actions::{Told, lock_file};
 use std::alloc::{AllocError, Global};
-use std::fs::{self, ReadDir};
+use std::fs::{self, Metadata, ReadDir};
 use std::os::unix::fs::{DirEntryExt, MetadataExt};
 use std::time::SystemTime;
 
@@ -59,6 +59,9 @@ impl Filing {
         }
     }
 }
+
+/// The path of standard input.
+const INPUT: &str = "/dev/stdin";
 
 /// Whether a path is meant as a folder: it is one, it ends in a slash, or something is asked for that a file hasn't.
 pub fn is_folder(rt: &HostRuntime, path: &str, filing: Filing) -> bool {
@@ -131,16 +134,29 @@ fn record_into<D: Disk + Drop, F: Folder<File = D> + Drop>(
 
 /// Whether standard input is a file of this folder. A run that read what it writes would never end.
 fn is_input_in(rt: &HostRuntime, folder: &str) -> bool {
-    let (Ok(input), Ok(within)) = (fs::metadata(rt, "/dev/stdin"), fs::metadata(rt, folder)) else {
+    let (Ok(input), Ok(within)) = (fs::metadata(rt, INPUT), fs::metadata(rt, folder)) else {
         return false;
     };
     if !input.is_file() || input.dev() != within.dev() {
         return false;
     }
+    // A file with one name stands where that name does: others may stand in any folder.
+    if input.nlink() == 1 {
+        if let Some(above) = folder_of(rt, INPUT) {
+            return above.dev() == within.dev() && above.ino() == within.ino();
+        }
+    }
     match fs::read_dir(rt, folder) {
         Ok(entries) => has_file(entries, input.ino()),
         Err(_) => false,
     }
+}
+
+/// The folder in which a path's file stands. None if it isn't known.
+fn folder_of(rt: &HostRuntime, path: &str) -> Option<Metadata> {
+    let path = fs::canonicalize(rt, path).ok()?;
+    let folder = path.as_path().parent()?;
+    fs::metadata(rt, folder).ok()
 }
 
 /// Whether one of these entries is the file with this number of the device.
