@@ -11,6 +11,8 @@ answered meanwhile.
 `changing.py limits PROGRAM WORK` has as many connections as may be, most of which read a file that has ended.
 `changing.py fails PROGRAM LIBRARY WORK` has each device call fail once, by the library of failing.c, while two sources
 come one after the other: one of them may lose something, and is told so.
+`changing.py fills PROGRAM LIBRARY WORK` has the device run full until the oldest file is thrown away, by the library of
+filling.c, while a listener hears: the file is opened again, and nothing of it is heard twice.
 `changing.py kills PROGRAM WORK COUNT` kills the station again and again over one growing folder while a source sends and
 ten listen: what any of them heard must be in its files, and the same command line goes on.
 
@@ -27,6 +29,7 @@ import time
 
 from archiving import found, stream
 from filing import files_of, wrong
+from finishing import pages_of as pages_in
 from pages import page
 from stationing import BASIC, Listener, Station, Told, faults_heard, is_whole, read_all, request, send_until_killed, until
 
@@ -292,6 +295,43 @@ def fails(program, library, work):
     return told.end()
 
 
+def fills(program, library, work):
+    told = Told()
+    for call in (20, 26, 32, 38):
+        name = "full at call %d" % call
+        folder = made(work, "full%d" % call)
+        words = ["--every", "52w", "--most-bytes", "2000"]
+        before = Station(program, folder, *words)
+        put(before, told, list(stream(1, 120)))
+        before.stop()
+        oldest, met = files_of(folder)[0][1], os.path.join(work, "met%d" % call)
+        station = Station(
+            program, folder, *words, "--keep-bytes", "1000000",
+            LD_PRELOAD=library, FILLING_CALL=str(call), FILLING_GOING="1", FILLING_MET=met,
+        )
+        listener = Listener(station)
+        listener.start()
+        time.sleep(0.2)
+        with station.connect() as one:
+            one.sendall(request(b"PUT", BASIC))
+            for each in stream(2, 150):
+                one.sendall(each)
+                time.sleep(0.008)
+        # What is committed is heard a second later.
+        time.sleep(1.5)
+        err = station.stop()
+        listener.join(20)
+        told.check("%s: it is met" % name, os.path.exists(met))
+        told.check("%s: the oldest goes" % name, oldest.encode() in err and not os.path.exists(folder + oldest), err)
+        # The last page may not have come whole.
+        got = listener.body()
+        heard = [bytes(it[6]) for it in pages_in(got[: found(got)[1]])]
+        told.check("%s: much is heard" % name, len(heard) > 100, len(heard))
+        rest = iter([bytes(it[6]) for _, _, _, data, _ in files_of(folder) for it in pages_in(data[: found(data)[1]])])
+        told.check("%s: nothing is heard twice" % name, all(it in rest for it in heard), len(heard))
+    return told.end()
+
+
 def packets_of(pages):
     """The packets of a stream, but for its first."""
     return [each for each in found(b"".join(pages))[0][0]["packets"][1:] if each]
@@ -341,7 +381,7 @@ def main():
     if what == "kills":
         return kills(program, work, int(more[0]))
     if more:
-        return fails(program, more[0], work)
+        return {"fails": fails, "fills": fills}[what](program, more[0], work)
     return {"hears": hears, "fetches": fetches, "lags": lags, "shares": shares, "limits": limits}[what](program, work)
 
 

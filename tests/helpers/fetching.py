@@ -6,9 +6,14 @@ parts, by whether the client has it, by HEAD, and in each way that is refused.
 `fetching.py grows PROGRAM WORK` fetches while a source sends and files change: each answer is what is committed of one
 file, as long as its length says, and what was fetched stays as it was.
 `fetching.py goes PROGRAM WORK` fetches a file slowly that is thrown away meanwhile.
+`fetching.py from PROGRAM WORK` asks stations over archives that are made by hand for what was recorded from a time on, and
+between two: the one holds the packets that the tests' own program says, the other is what `cut` writes.
+`fetching.py follows PROGRAM WORK` hears from a time on while a source sends and files change: what is heard is a part of
+the first file, and then all of each file that follows.
 
 Each prints a line for what is wrong, and last how much was tried; the status is 1 if something was wrong.
 """
+import copy
 import os
 import random
 import re
@@ -19,8 +24,10 @@ import threading
 import time
 
 from archiving import stream
+from cutting import a_time, held, recorded, times_of, told as spelled
 from changing import made, pages_of
 from filing import files_of
+from finishing import pages_of as pages_in
 from stationing import BASIC, Station, Told, read_all, request, until
 
 FOREVER = b"public, max-age=31536000, immutable"
@@ -132,6 +139,18 @@ def answers(program, work):
     put = Answer(station.ask(request(b"PUT", BASIC, b"Content-Length: %d" % len(body)).replace(b"/radio.ogg", path), body))
     told.check("a source at a file's path", put.status == 200, put)
 
+    # A head in pieces.
+    for target in (path, b"/files", b"http://radio.example" + path):
+        for size in (1, 2, 7):
+            text = get(target)
+            pieces = [text[at : at + size] for at in range(0, len(text), size)]
+            answer = Answer(station.ask(*pieces))
+            told.check("%r in pieces of %d" % (target, size), answer.status == 200 and len(answer.body) == answer.length(), answer)
+    for text in (b"GET /fi", b"GET /from", b"H"):
+        rest = b"nd HTTP/1.0\r\n\r\n" if text != b"H" else b"EAD /all HTTP/1.0\r\n\r\n"
+        answer = Answer(station.ask(text, rest))
+        told.check("%r and then another target" % text, answer.status == (200 if text == b"H" else 404), answer)
+
     # What follows a head.
     two = Answer(station.ask(get(path) + get(b"/files")))
     told.check("one answer a connection", two.body == data, two)
@@ -229,5 +248,185 @@ def goes(program, work):
     return told.end()
 
 
+def links_heard(data):
+    """The links of what was heard, whose streams need not have ended: of each stream its packets."""
+    links, begins = [], False
+    for flags, _, serial, sequence, lacing, body, _ in pages_in(data):
+        if flags & 2 and not begins:
+            links.append({})
+        begins = bool(flags & 2)
+        own = links[-1].setdefault(serial, [0, b"", []])
+        assert sequence == own[0], ("number", serial, sequence, own[0])
+        own[0] += 1
+        for value in lacing:
+            own[1], body = own[1] + body[:value], body[value:]
+            if value < 255:
+                own[2].append(own[1])
+                own[1] = b""
+    return [[[serial, own[2]] for serial, own in link.items()] for link in links]
+
+
+def hear(station, target, is_enough, seconds=20):
+    """What is heard until it is enough and no more comes, and what the answer's head is."""
+    with station.connect() as one:
+        one.sendall(get(target))
+        one.settimeout(0.15)
+        got, end = b"", time.monotonic() + seconds
+        while time.monotonic() < end:
+            try:
+                piece = one.recv(65536)
+            except TimeoutError:
+                if b"\r\n\r\n" in got and is_enough(got.partition(b"\r\n\r\n")[2]):
+                    break
+                continue
+            if not piece:
+                break
+            got += piece
+    return Answer(got)
+
+
+def holds(links):
+    """Whether this much was heard. It may end within a page."""
+
+    def check(data):
+        try:
+            return links_heard(data) == links
+        except AssertionError:
+            return False
+
+    return check
+
+
+def between(told, station, program, folder, rng, files):
+    since, until = sorted([a_time(rng, files), a_time(rng, files)])
+    ran = subprocess.run(
+        [program, "cut", folder, "--since", spelled(since), "--until", spelled(until)], capture_output=True, timeout=60
+    )
+    target = b"/from/%s/to/%s" % (spelled(since).encode(), spelled(until).encode())
+    if rng.random() < 0.3:
+        target = target.replace(b":", b"%3A")
+    whole = Answer(station.ask(get(target)))
+    if ran.returncode:
+        told.check("%s: nothing" % target, whole.status == 404 and not whole.body, whole, ran.stderr)
+        return 0
+    told.check("%s" % target, whole.status == 200 and whole.body == ran.stdout, whole, ran.stderr)
+    told.check("%s: its length" % target, whole.length() == len(ran.stdout), whole, len(ran.stdout))
+    first, last = (it.replace(b"-", b"").replace(b":", b"") for it in ran.stderr.split()[1:3])
+    name = b'attachment; filename="%s-%s.ogg"' % (first, last)
+    told.check("%s: its name" % target, whole.fields[b"content-disposition"] == name, whole, name)
+    head = Answer(station.ask(get(target, method=b"HEAD")))
+    told.check("%s: HEAD" % target, head.fields == whole.fields and not head.body, head)
+    start = rng.randrange(len(ran.stdout))
+    end = rng.randrange(start, len(ran.stdout))
+    part = Answer(station.ask(get(target, b"Range: bytes=%d-%d" % (start, end))))
+    told.check("%s: %d to %d" % (target, start, end), part.status == 206 and part.body == ran.stdout[start : end + 1], part)
+    part = Answer(station.ask(get(target, b"Range: bytes=%d-" % len(ran.stdout))))
+    told.check("%s: past its end" % target, part.status == 416 and not part.body, part)
+    return 1
+
+
+def from_times(program, work):
+    told, rng = Told(), random.Random(91)
+    cut = 0
+    for at in range(8):
+        folder = made(work, "from%d" % at)
+        files = recorded(rng, folder)
+        station = Station(program, folder)
+        # What was open when the recording stopped the station has ended.
+        found = copy.deepcopy(files)
+        for serial in found[-1].open_serials():
+            found[-1].end(int(time.time() * 1000), serial)
+        laters = [file.begin for file in files[1:]] + [int(time.time() * 1000)]
+        when = [times_of(file, later) for file, later in zip(found, laters)]
+        for _ in range(12):
+            since = a_time(rng, files)
+            want = [link for file, moments in zip(found, when) for link in held(file, moments, since, None)]
+            target = b"/from/" + spelled(since).encode()
+            answer = hear(station, target, holds(want))
+            told.check("%d: %s" % (at, target), answer.status == 200 and holds(want)(answer.body), answer)
+            cut += between(told, station, program, folder, rng, files)
+        head = Answer(station.ask(get(b"/from/2021-01-01T14:00:01Z", method=b"HEAD")))
+        told.check("HEAD", head.status == 200 and not head.body and b"content-length" not in head.fields, head)
+        for target in (b"/from/2199-01-01T00:00:00Z", b"/from/", b"/from", b"/from/x", b"/from/-0s/", b"/from/-0s/to/", b"/from/-0s/to",
+                       b"/from/%ff", b"/from/-0s/to/2199-01-01T00:00:00Z", b"/from/-0s/to/x", b"/from/-0s/to/-0s/", b"/from/" + b"1" * 90):
+            gone = Answer(station.ask(get(target)))
+            told.check("%r" % target, gone.status == 404 and gone.length() == 0, gone)
+        refused = Answer(station.ask(get(b"/from/-0s", method=b"POST")))
+        told.check("POST", refused.status == 405, refused)
+        err = station.stop()
+        told.check("standard error", b"fault" not in err, err[-300:])
+    told.check("some cuts have something in them", cut > 20, cut)
+    return told.end()
+
+
+def follows(program, work):
+    told, rng = Told(), random.Random(92)
+    folder = made(work, "follows")
+    station = Station(program, folder, "--every", "2s")
+    heard, ends = [], threading.Event()
+
+    def listen(back):
+        with station.connect() as one:
+            one.sendall(get(b"/from/-%ds" % back))
+            one.settimeout(0.2)
+            got = b""
+            while not ends.is_set():
+                try:
+                    piece = one.recv(65536)
+                except TimeoutError:
+                    continue
+                if not piece:
+                    break
+                got += piece
+        heard.append((back, Answer(got)))
+
+    listeners = []
+    for seed in (73, 74):
+        with station.connect() as one:
+            one.sendall(request(b"PUT", BASIC))
+            for at, page in enumerate(stream(seed, 3000)):
+                one.sendall(page)
+                time.sleep(0.0018)
+                if at % 150 == 20:
+                    listeners.append(threading.Thread(target=listen, args=(rng.choice([0, 1, 1, 3, 5, 9]),)))
+                    listeners[-1].start()
+    # The last pages are heard a second after they are committed.
+    time.sleep(2.5)
+    ends.set()
+    for one in listeners:
+        one.join(20)
+    files = [(number, data) for number, _, _, data, _ in files_of(folder)]
+    files[-1] = (files[-1][0], pages_of(folder)[-1])
+    told.check("files change", len(files) > 4, len(files))
+    told.check("many hear", len(heard) == len(listeners) > 20, len(heard))
+    over = 0
+    for back, answer in heard:
+        name = "from -%ds" % back
+        told.check(name, answer.status == 200, answer)
+        # How many files were heard whole, at the end.
+        rest, whole = answer.body, 0
+        while whole < len(files) and rest.endswith(files[-1 - whole][1]):
+            rest = rest[: len(rest) - len(files[-1 - whole][1])]
+            whole += 1
+        over = max(over, whole)
+        if not rest:
+            continue
+        told.check("%s: a file before" % name, whole < len(files), whole)
+        first = files[-1 - whole][1]
+        links, all_of_it = links_heard(rest), links_heard(first)
+        told.check("%s: its links" % name, len(links) <= len(all_of_it), len(links), len(all_of_it))
+        for link, one in zip(links[::-1], all_of_it[::-1]):
+            same = link == one or link is links[0] and all(
+                serial in dict(one) and packets[0] == dict(one)[serial][0] and packets[1:] == dict(one)[serial][len(dict(one)[serial]) - len(packets) + 1 :]
+                for serial, packets in link
+            )
+            told.check("%s: its packets" % name, same, [[it[0], len(it[1])] for it in link])
+    told.check("some hear over files", over > 2, over)
+    err = station.stop()
+    told.check("standard error", b"fault" not in err, err[-300:])
+    return told.end()
+
+
 if __name__ == "__main__":
-    sys.exit({"answers": answers, "grows": grows, "goes": goes}[sys.argv[1]](*sys.argv[2:]))
+    ways = {"answers": answers, "grows": grows, "goes": goes, "from": from_times, "follows": follows}
+    sys.exit(ways[sys.argv[1]](*sys.argv[2:]))

@@ -5,7 +5,9 @@
 each packet stands once, in order, over all files. `filing.py kills PROGRAM FOLDER COUNT` runs an encoder into `archive`
 again and again over one growing folder whose files have few pages, each time killing the encoder, the program or both,
 and checks after each run what the folder holds. `filing.py fills PROGRAM LIBRARY FOLDER` has the device run full at each of
-its calls in turn, by the library of filling.c, until one file or two were thrown away.
+its calls in turn, by the library of filling.c, until one file or two were thrown away. `filing.py fails PROGRAM LIBRARY
+FOLDER` has each device call of a recording over several files fail in turn, or the program stop before it, by the library of
+failing.c; then another stream is recorded, and all that was kept of the first one is there still.
 """
 import os
 import random
@@ -29,7 +31,8 @@ def files_of(folder):
         if it := NAME.fullmatch(name):
             path = os.path.join(folder, name)
             times = path[:-4] + ".times"
-            lines = open(times).read().splitlines() if os.path.exists(times) else []
+            # A line that a stop has torn, or a fault, isn't one.
+            lines = open(times).read().split("\n")[:-1] if os.path.exists(times) else []
             files.append((int(it[1]), name, bool(it[2]), open(path, "rb").read(), lines))
     return sorted(files)
 
@@ -261,6 +264,76 @@ def fills(program, library, folder):
     print(f"{runs} runs, {bad} wrong")
 
 
+def in_files(folder):
+    """The numbers of the packets of each stream, in order, and what is wrong with the files."""
+    numbers, faults = {}, []
+    for _, name, _, data, lines in files_of(folder):
+        streams, end = found(data)
+        faults += [f"{name}: times: {it}" for it in wrong_times(data, end, lines)]
+        for one in streams:
+            seed, _ = struct.unpack("<II", one["packets"][0][:8])
+            got = [struct.unpack("<II", it[:8])[1] for it in one["packets"][1:]]
+            faults += [f"{name}: packet {at}" for it, at in zip(one["packets"][1:], got) if it != packet(seed, at)]
+            numbers.setdefault(seed, []).extend(got)
+    faults += [f"stream {seed}: {got}" for seed, got in numbers.items() if got != sorted(set(got))]
+    return numbers, faults
+
+
+def failed(path, program, library, call, how):
+    """Archives stream 1 over several files, and then stream 2. Returns whether the call was met, and what is wrong."""
+    shutil.rmtree(path, ignore_errors=True)
+    command = [program, "archive", path, "--every", "52w", "--most-bytes", "300", "--group", str(GROUP)]
+    more = {"LD_PRELOAD": library, "FAILING_CALL": str(call), "FAILING_HOW": how, "FAILING_MET": path[:-1] + ".met"}
+    if os.path.exists(more["FAILING_MET"]):
+        os.remove(more["FAILING_MET"])
+    given = b"".join(stream(1, COMING))
+    first = subprocess.run(command, input=given, capture_output=True, timeout=20, env={**os.environ, **more})
+    if not os.path.exists(more["FAILING_MET"]):
+        return False, []
+    told = first.stderr.decode().splitlines()
+    numbers, faults = in_files(path) if os.path.isdir(path) else ({}, [])
+    kept = numbers.get(1, [])
+    if how == "stop" and kept != list(range(1, len(kept) + 1)):
+        faults.append(f"stopped: packets {kept}")
+    if how != "stop" and (first.returncode not in (0, 1) or not told):
+        faults.append(f"status {first.returncode}, {told}")
+    if first.returncode == 0 and kept != list(range(1, 2 * COMING - 1)):
+        faults.append(f"status 0, and packets {kept}")
+    second = subprocess.run(command, input=b"".join(stream(2, COMING)), capture_output=True, timeout=20)
+    then = second.stderr.decode().splitlines()
+    if second.returncode != 0:
+        faults.append(f"the second run: status {second.returncode}, {then}")
+    numbers, more_faults = in_files(path)
+    faults += more_faults
+    if numbers.get(1, [])[: len(kept)] != kept:
+        faults.append(f"packets {kept} became {numbers.get(1, [])}")
+    if numbers.get(2, []) != list(range(1, 2 * COMING - 1)):
+        faults.append(f"of the second stream {numbers.get(2, [])}")
+    aside = {line.split()[1] for line in told + then if line.startswith("damaged ")}
+    for _, name, _, data, _ in files_of(path)[:-1]:
+        streams, end = found(data)
+        if name not in aside and (end != len(data) or not all(one["ended"] for one in streams)):
+            faults.append(f"{name} isn't sealed")
+    return True, faults
+
+
+def fails(program, library, folder):
+    runs = bad = 0
+    for how in ("stop", "io", "full", "torn", "short", "interrupted"):
+        for call in range(1, 1000):
+            met, faults = failed(os.path.join(folder, "fails/"), program, library, call, how)
+            if not met:
+                break
+            for fault in faults[:3]:
+                print(f"{how} at call {call}: {fault}")
+            bad += bool(faults)
+            runs += 1
+    if runs < 300:
+        print(f"only {runs} runs")
+        bad += 1
+    print(f"{runs} runs, {bad} wrong")
+
+
 def main():
     match sys.argv[1:]:
         case ["stream", seed, count]:
@@ -275,6 +348,8 @@ def main():
             kills(program, folder, int(count))
         case ["fills", program, library, folder]:
             fills(program, library, folder)
+        case ["fails", program, library, folder]:
+            fails(program, library, folder)
         case _:
             sys.exit(__doc__)
 

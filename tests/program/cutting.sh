@@ -21,6 +21,8 @@ check "an archive that is recorded, with restarts, while it is cut" cutting grow
 mkdir "$work/empty"
 run cut "$work/empty"
 came "an empty folder" 1 '' 'fault cut 1 Nothing\n'
+run cut "$work/empty" --since -90s --until -0s
+came "an empty folder, up to now" 1 '' 'fault cut 1 Nothing\n'
 run cut "$work/none"
 came "no folder" 1 '' 'fault file\n'
 

@@ -27,6 +27,8 @@ cc -O2 -shared -fPIC -D_GNU_SOURCE -o "$work/failing.so" "$here/failing.c" || ex
 for what in hears fetches lags shares limits; do
     check "changing.py $what" timeout 170 python3 "$here/changing.py" "$what" "$program" "$work/changing"
 done
+cc -O2 -shared -fPIC -D_GNU_SOURCE -o "$work/filling.so" "$here/filling.c" || exit 1
+check "changing.py fills" timeout 170 python3 "$here/changing.py" fills "$program" "$work/filling.so" "$work/changing"
 check "changing.py fails" timeout 300 python3 "$here/changing.py" fails "$program" "$work/failing.so" "$work/changing"
 # A hundred kills at most: they belong to ./check --all.
 kills=${KILLS:-20}
