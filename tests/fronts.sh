@@ -1,6 +1,6 @@
 #!/usr/bin/env bash
 # A station behind other servers, by the files of examples/station: nginx with TLS and a cache, icecast2 as a relay, another
-# recording as a mirror, and systemd's unit. What isn't there is installed; what can't be is left out with a word. Not part
+# recording as a mirror, copies of an archive by rsync and in a store, and systemd's unit. What isn't there is installed; what can't be is left out with a word. Not part
 # of the tests that ./check runs without --media.
 #
 #     tests/fronts.sh           the last line is 'N passed, M failed'
@@ -10,8 +10,8 @@ begun=()
 trap 'kill "${begun[@]}" 2>/dev/null; rm -rf "$work"' EXIT
 
 asking() { timeout 30 python3 "$here/asking.py" "$@"; }
-needs ffmpeg ffprobe curl nginx openssl icecast2 systemd-analyze -- \
-    ffmpeg curl nginx-light openssl icecast2 systemd >"$work/told" || cat "$work/told"
+needs ffmpeg ffprobe curl nginx openssl icecast2 systemd-analyze rsync rclone -- \
+    ffmpeg curl nginx-light openssl icecast2 systemd rsync rclone >"$work/told" || cat "$work/told"
 has ffmpeg ffprobe curl || exit 1
 
 # noise SECONDS SERIAL FILE: Vorbis of about 100 kbit/s, with this first serial.
@@ -213,6 +213,34 @@ if has icecast2; then
     check "icecast2 comes back by itself" within 90 hears "$work/relay.2"
     kill "$station" "$encoder"
     wait "$station" "$encoder" 2>/dev/null
+fi
+
+# Copies of an archive: by rsync while it is recorded, and in a store of whole files, which gets those that have ended.
+if has rsync rclone; then
+    store=$(asking port)
+    mkdir "$work/store" "$work/stored"
+    export RCLONE_CONFIG=$work/none.conf
+    rclone serve webdav "$work/store" --addr "127.0.0.1:$store" 2>"$work/webdav.err" &
+    begun+=($!)
+    asking wait "$store"
+    stored() { timeout 60 rclone "$@" --webdav-url "http://127.0.0.1:$store" 2>"$work/rclone.err"; }
+    live "$work/short.ogg" | "$program" archive "$work/copied/" --every 2s 2>"$work/err" &
+    recording=$!
+    within 10 sh -c "ls $work/copied 2>&1 | grep -q '^000004-.*ogg'"
+    check "rsync copies an archive that is recorded" timeout 60 rsync -a "$work/copied/" "$work/backup/"
+    check "its copy is sound" "$program" verify "$work/backup" >"$work/out" 2>&1
+    check "rclone stores what has ended" stored copy --min-age 3s --exclude lock "$work/copied/" :webdav:radio
+    check "it has some" [ "$(ls "$work/store/radio" | grep -c ogg)" -ge 1 ]
+    check "and not the newest" [ ! -e "$work/store/radio/$(ls "$work/copied" | grep ogg | tail -n 1)" ]
+    wait "$recording"
+    timeout 60 rsync -a "$work/copied/" "$work/backup/"
+    check "rsync has all of it at the end" diff -r "$work/copied" "$work/backup"
+    stored copy --exclude lock "$work/copied/" :webdav:radio
+    stored copy :webdav:radio "$work/stored"
+    check "what comes back from the store is all of it" diff -r --exclude lock "$work/copied" "$work/stored"
+    "$program" cut "$work/copied" >"$work/want" 2>"$work/err"
+    "$program" cut "$work/stored" >"$work/found" 2>"$work/err"
+    check "and an archive again" cmp "$work/want" "$work/found"
 fi
 
 # Mirrors: of what is recorded from now on, and of the whole file.
