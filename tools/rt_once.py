@@ -5,8 +5,9 @@
 
 rt knows by a stamp whether a crate has changed. The stamp of a crate has those of the crates that it uses, and rt works
 them out along each path of the graph, from the sources each time: of the program's that is 32,000 times. Here a stamp
-that is asked for reads each crate once. What it is stays the same. An rt that has no such method, or that isn't written
-in Python, runs as it is.
+that is asked for reads each crate once. What it is stays the same. The list of the crates below one is made along each
+path, too, for each import of a check; here it is made once. An rt that has no such methods, or that isn't written in
+Python, runs as it is.
 """
 import importlib.machinery
 import os
@@ -37,14 +38,28 @@ def once(stamp: Callable[[object], str]) -> Callable[[object], str]:
     return stamped
 
 
+def listed(below: Callable[[object], list]) -> Callable[[object], list]:
+    """The same method, which lists the crates below a crate once."""
+    lists: dict[object, list] = {}
+
+    def list_of(crate: object) -> list:
+        if crate not in lists:
+            lists[crate] = below(crate)
+        return [*lists[crate]]
+
+    return list_of
+
+
 class Loader(importlib.machinery.SourceFileLoader):
-    """Loads a module as ever. In the one that has rt's crates the method is replaced."""
+    """Loads a module as ever. In the one that has rt's crates the methods are replaced."""
 
     def exec_module(self, module) -> None:
         super().exec_module(module)
         crate = getattr(module, "Crate", None)
         if module.__name__ == "rtlib" and hasattr(crate, "stamp"):
             crate.stamp = once(crate.stamp)
+        if module.__name__ == "rtlib" and hasattr(crate, "below"):
+            crate.below = listed(crate.below)
 
 
 def main() -> None:
