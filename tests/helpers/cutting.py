@@ -613,6 +613,18 @@ def meeting(program):
         new.line(START + 4000)
         return [old, new]
 
+    def no_more(files, ended):
+        """The second file has nothing after its Begin, but perhaps what ends its streams."""
+        new = files[1]
+        new.data, new.commands = new.data[: new.commands[0][2]], new.commands[:1]
+        new.lines = [line for line in new.lines if line[0] <= len(new.data)]
+        for serial in new.streams:
+            new.streams[serial][1] = 0
+            if ended:
+                new.streams[serial][0] -= 1
+                new.end(START + 3300, serial)
+        return files
+
     def without_line(files, which):
         files[which].lines = [(offset, when, None) for offset, when, _ in files[which].lines]
         return files
@@ -659,6 +671,8 @@ def meeting(program):
         "no line tells of the first Begin": (without_line(files(), 0), 1),
         "no line tells of the second Begin": (without_line(files(), 1), 2),
         "one stream": (files(streams=(one,), again=((17, one[1]),)), 1),
+        "nothing after the second Begin": (no_more(files(), False), 1),
+        "nothing but ends after the second Begin": (no_more(files(), True), 2),
         "numbers are used up": (far_on(files(streams=(one,), again=((17, one[1]),))), 2),
     }
     for name, (made, count) in cases.items():
@@ -669,6 +683,11 @@ def meeting(program):
             ran = archive.run(None, None, "--raw")
             links = links_of(pages_of(ran.stdout))
             assert len(links) == count, (name, count, len(links), ran.stderr)
+            last = {}
+            for flags, position, serial, *_ in pages_of(ran.stdout):
+                last[serial] = 0 if flags & 2 else last[serial]
+                assert position >= last[serial], (name, "position", serial, position, last[serial])
+                last[serial] = position
             if name != "numbers are used up":
                 assert links_in(ran.stdout) == archive.want(None, None), (name, links_in(ran.stdout), archive.want(None, None))
 

@@ -3,7 +3,7 @@
 
 use archive_cut::{Named, Said, name_page, name_said, names_on, open_streams, take_page};
 use link_chain::StreamState;
-use ogg_page::{FIXED_SIZE, Memory, read_header};
+use ogg_page::{FIXED_SIZE, LAST, Memory, PageHead, read_header, write_page};
 use std::alloc::Global;
 
 /// What the packet begins with that is the first of a Skeleton (Ogg Skeleton 3.0).
@@ -60,7 +60,13 @@ impl Serials {
     pub(crate) fn place(&mut self, said: Said, page: &mut [u8]) -> Result<Said, NoPlace> {
         self.pass(said, page)?;
         match name_page(self.names.as_slice(), said, page) {
-            Some(placed) => self.note(placed),
+            Some(named) => {
+                let placed = self.at_last_position(named);
+                if placed.position != named.position {
+                    put_end(self.alloc, &placed, page)?;
+                }
+                self.note(placed)
+            }
             None => Err(NoPlace::Page),
         }
     }
@@ -70,9 +76,29 @@ impl Serials {
     pub(crate) fn name(&mut self, said: Said, front: &[u8]) -> Result<Said, NoPlace> {
         self.pass(said, front)?;
         match name_said(self.names.as_slice(), said) {
-            Some(placed) => self.note(placed),
+            Some(named) => {
+                let placed = self.at_last_position(named);
+                self.note(placed)
+            }
             None => Err(NoPlace::Page),
         }
+    }
+
+    /// A page that ends a stream and holds no packet has the position of the page before. In a file that goes on the stream
+    /// may have had no page with one.
+    fn at_last_position(&self, said: Said) -> Said {
+        if said.begins || !said.is_empty || !said.ends {
+            return said;
+        }
+        for stream in &self.streams {
+            if stream.serial == said.serial {
+                return Said {
+                    position: stream.last_position.max(said.position),
+                    ..said
+                };
+            }
+        }
+        said
     }
 
     /// Goes on to the next page.
@@ -126,6 +152,25 @@ impl Serials {
             Err(_) => Err(NoPlace::Memory),
         }
     }
+}
+
+/// Puts what is said of a page that holds no packet in its place.
+fn put_end(alloc: Global, said: &Said, page: &mut [u8]) -> Result<(), NoPlace> {
+    let head = PageHead {
+        flags: LAST,
+        position: said.position,
+        serial: said.serial,
+        sequence: said.number,
+    };
+    let mut text = Vec::new(alloc);
+    if write_page(&head, &[], &[], &mut text).is_err() {
+        return Err(NoPlace::Memory);
+    }
+    if text.len() != page.len() {
+        return Err(NoPlace::Page);
+    }
+    page.copy_from_slice(text.as_slice());
+    Ok(())
 }
 
 /// Whether the page's packet is the first of a Skeleton.
