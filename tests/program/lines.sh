@@ -30,6 +30,10 @@ check "a last line without a line feed: $(tail -n 1 "$work/out")" [ "$(tail -n 1
 gives "a last line without a line feed" "$work/whole" "$work/open.ogg"
 run lines "$work/none.ogg" --acks </dev/null
 came "nothing comes" 0 '' 'archived 0 0 0 0\n'
+before=$(md5sum <"$work/any.ogg")
+run lines "$work/any.ogg" <"$work/any.ogg"
+came "the file itself" 1 '' 'fault archive 1 Read\n'
+check "the file itself: nothing is done" [ "$(md5sum <"$work/any.ogg")" = "$before" ]
 
 # However the input comes, its lines are the same.
 for size in 1 2 3 7; do

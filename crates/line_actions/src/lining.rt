@@ -8,7 +8,7 @@ use archive_actions::{
 use archive_folder::{Folder, SystemFolder};
 use archive_record::{ArchiveNames, Rules};
 use disk_model::Disk;
-use fault_lines::Fault;
+use fault_lines::{Fault, is_input};
 use import_feed::{ChangeOptions, Skeletons};
 use import_record::{ImportRun, RecordFault, refused_line};
 use line_packets::{Acks, LeftOut, LineFault, LinePages, Streams, kept_line, left_line};
@@ -97,6 +97,9 @@ fn into_file(
     streams: Streams,
     options: LineOptions<'_>,
 ) -> Result<(), Fault> {
+    if is_input(rt, file) {
+        return Err(Fault::Archive(RecordFault::Read));
+    }
     let mut recording = FileRecording::open(rt, file, MOST, false)?;
     record_lines(rt, &mut recording, streams, options)?;
     recording.seal(options.seal)
