@@ -1,6 +1,6 @@
 //! Connections that get a file, or a text.
-ghost use Rattle.std.specs.Prelude.{◌≡◌, ◌≢◌, ◌++◌, ◌∷◌, ◌≤◌, [], ℕ, None, Some, false, true, length, take, IfOk, IfSome, IsSome, OnErr};
-ghost use Rattle.slab.specs.Slab.{get, slab_len};
+ghost use Rattle.std.specs.Prelude.{◌≡◌, ◌≢◌, ◌++◌, ◌∷◌, ◌≤◌, [], ℕ, None, Some, false, true, length, take, IfOk, IfSome, IsOk, IsSome, OnErr};
+ghost use Rattle.slab.specs.Slab.{HasRoomFor, get, slab_len};
 ghost use Rattle.serve_clients.specs.Client.{ClientState, HasWritten, after_of, given, moved_if, with_line, with_stage};
 ghost use Rattle.serve_clients.specs.Clients.{AllStay, AreLookedAt, HasTurn, OthersStay, goes_again, told_by, turned_by, unread_by, unwritten_by};
 ghost use Rattle.serve_clients.specs.Line.{moved_on, taken_off};
@@ -108,6 +108,7 @@ fn end_file<D: Disk>(client: &mut Client, heard: &mut Heard<D>)
 fn grown<D: Disk>(client: &mut Client, content: Content<D>, committed: u64) -> Content<D>
     ensures grows { (heard : HeardState D) → content ≡ HeardOf heard → (rest : HeardState D)
         × Grows D.Disk committed client.old heard client.new rest × (result ≡ HeardOf rest) }
+    ensures other { ((heard : HeardState D) → content ≢ HeardOf heard) → (client.new ≡ client.old) × (result ≡ content) }
 {
     match content {
         Content::Heard(heard) => {
@@ -123,6 +124,7 @@ fn grown<D: Disk>(client: &mut Client, content: Content<D>, committed: u64) -> C
 fn ended<D: Disk>(client: &mut Client, content: Content<D>) -> Content<D>
     ensures ends { (heard : HeardState D) → content ≡ HeardOf heard → (rest : HeardState D)
         × Ends D.Disk client.old heard client.new rest × (result ≡ HeardOf rest) }
+    ensures other { ((heard : HeardState D) → content ≢ HeardOf heard) → (client.new ≡ client.old) × (result ≡ content) }
 {
     match content {
         Content::Heard(heard) => {
@@ -235,6 +237,7 @@ fn keep<T: Drop>(slots: &mut Slab<T>, value: T) -> Result<usize, Memory>
     ensures some { IfOk result (λ key. get slots.new key ≡ Some value) }
     ensures others { IfOk result (λ key. (other : ℕ) → other ≢ key → get slots.new other ≡ get slots.old other) }
     ensures err { OnErr result ((key : ℕ) → get slots.new key ≡ get slots.old key) }
+    ensures succeeds { HasRoomFor slots.old 1 → IsOk result }
 {
     match slots.insert(value) {
         Ok(key) => Ok(key),
@@ -318,6 +321,7 @@ impl<D: Disk + Drop> Fetches<D> {
         ensures gone { OnErr result ((id : ℕ) → client.session ≡ Some id → get self.new.contents id ≡ None) }
         ensures kept { OnErr result ((other : ℕ) → client.session ≢ Some other → get self.new.contents other ≡ get self.old.contents other) }
         ensures err { OnErr result ((key : ℕ) → get self.new.clients.slots key ≡ get self.old.clients.slots key) }
+        ensures succeeds { HasRoomFor self.old.clients.slots 1 → IsOk result }
     {
         let session = client.session;
         match keep(&mut self.clients.slots, client) {
