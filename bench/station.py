@@ -4,6 +4,7 @@
 Connects COUNT listeners to a server that sends a live stream, all at once, and reads for SECONDS. Prints how long the
 first byte of audio took (in the middle, at worst), how many listeners got one, the longest pause in the middle, and
 what the server took meanwhile: CPU milliseconds for each listener that heard something and minute, and MB of memory.
+Without listeners it prints what the server takes by itself in a minute.
 """
 import os
 import selectors
@@ -33,6 +34,10 @@ def main():
         one.connect_ex(("127.0.0.1", port))
         selector.register(one, selectors.EVENT_WRITE, {"got": b"", "first": None, "last": None, "pause": 0.0})
     end = start + seconds
+    if not count:
+        time.sleep(seconds)
+        print("no listener; %.1f ms of CPU a minute; %.1f MB" % ((cpu(pid) - before) * 1000 / (seconds / 60), memory(pid)))
+        return 0
     while (now := time.monotonic()) < end:
         for key, mask in selector.select(0.1):
             one, state, now = key.fileobj, key.data, time.monotonic()

@@ -1,7 +1,9 @@
 #!/usr/bin/env bash
 # Measures listeners of a station that join at once, beside icecast2: how long the first byte of audio takes, the longest
-# pause, and the CPU and the memory of the server. Both get the same stream of ffmpeg, in real time. 10,000 listeners have
-# the station alone, beside its own 1,000. Not part of the tests.
+# pause, and the CPU and the memory of the server. Both get the same stream of ffmpeg, in real time. The CPU is compared
+# with a C program too that has the same listeners and makes the calls alone, without a source, a file or a page
+# (live_writes.c), and with the station that has no listener. 10,000 listeners have the station alone, beside its own
+# 1,000. Not part of the tests.
 #
 #     apt-get install ffmpeg icecast2 && bench/station.sh [SECONDS]      none: 10 for each count of listeners
 . "$(dirname "$0")/common.bash"
@@ -22,11 +24,15 @@ cat >"$work/icecast.xml" <<END
 <adminroot>/usr/share/icecast2/admin</adminroot></paths><logging><loglevel>1</loglevel></logging>
 <security><chroot>0</chroot><changeowner><user>nobody</user><group>nogroup</group></changeowner></security></icecast>
 END
+cc -O2 -D_GNU_SOURCE -o "$work/live_writes" "$here/live_writes.c" || exit 1
+alone=$(free_port)
+"$work/live_writes" "$alone" 16000 &
+writes=$!
 "$station" station "$work/station.ogg" "127.0.0.1:$ours" --password-file "$work/password" --listeners 16384 </dev/null 2>"$work/err" &
 server=$!
 icecast2 -c "$work/icecast.xml" >"$work/out" 2>&1 &
 icecast=$!
-begun=("$server" "$icecast")
+begun=("$server" "$icecast" "$writes")
 sleep 1
 for to in "$ours" "$theirs"; do
     ffmpeg -nostdin -loglevel error -re -stream_loop -1 -i "$work/in.ogg" -c copy -page_duration 100000 -f ogg \
@@ -38,11 +44,18 @@ sleep 8
 number() { sed -n "s/.* \([0-9.]*\) $1.*/\1/p" <<<" $2"; }
 # hear TEXT: how many hear something, if that isn't everybody.
 hear() { sed -n 's/.*; \([0-9]*\) of \([0-9]*\) hear;.*/\1 \2/p' <<<"$1" | awk '$1 < $2 { print $1 " hear" }'; }
+our_line=$(python3 "$here/station.py" "$ours" /live "$server" 0 "$seconds")
+their_line=$(python3 "$here/station.py" "$theirs" /live.ogg "$icecast" 0 "$seconds")
+echo "station: $our_line"
+echo "icecast2: $their_line"
+row 'no listener of `station`, a minute' 'CPU ms' "$(number 'ms of CPU' "$our_line")" icecast2 "$(number 'ms of CPU' "$their_line")"
 for count in 64 512 1000; do
     our_line=$(python3 "$here/station.py" "$ours" /live "$server" "$count" "$seconds")
     their_line=$(python3 "$here/station.py" "$theirs" /live.ogg "$icecast" "$count" "$seconds")
     echo "$count listeners, station: $our_line"
     echo "$count listeners, icecast2: $their_line"
+    alone_line=$(python3 "$here/station.py" "$alone" /live "$writes" "$count" "$seconds")
+    echo "$count listeners, the calls alone: $alone_line"
     what="$count listeners of \`station\`"
     for line in "ours: $our_line" "theirs: $their_line"; do
         few=$(hear "$line")
@@ -53,6 +66,7 @@ for count in 64 512 1000; do
     row "$what: the longest pause" s "$(number 's in the middle; [0-9.]* ms' "$our_line")" \
         icecast2 "$(number 's in the middle; [0-9.]* ms' "$their_line")"
     row "$what, each for a minute" 'CPU ms' "$(number 'ms of CPU' "$our_line")" icecast2 "$(number 'ms of CPU' "$their_line")"
+    row "$what, each for a minute" 'CPU ms' "$(number 'ms of CPU' "$our_line")" 'the calls alone' "$(number 'ms of CPU' "$alone_line")"
     row "$what" MB "$(number MB "$our_line")" icecast2 "$(number MB "$their_line")"
 done
 line=$(python3 "$here/station.py" "$ours" /live "$server" 10000 "$seconds")

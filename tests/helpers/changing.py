@@ -18,6 +18,7 @@ ten listen: what any of them heard must be in its files, and the same command li
 
 Each prints a line for what is wrong, and last how much was tried; the status is 1 if something was wrong.
 """
+import contextlib
 import os
 import random
 import select
@@ -48,6 +49,15 @@ def pages_of(folder):
 
 def is_open(station):
     return b"open" in station.ask(b"GET / HTTP/1.0\r\n\r\n")
+
+
+def open_files(pid):
+    """The paths that a process has open. What it closes meanwhile is left out."""
+    paths = []
+    for it in os.listdir("/proc/%d/fd" % pid):
+        with contextlib.suppress(FileNotFoundError):
+            paths.append(os.readlink("/proc/%d/fd/%s" % (pid, it)))
+    return paths
 
 
 def hears(program, work):
@@ -133,8 +143,7 @@ def fetches(program, work):
     newest = station.ask(b"GET /link/0 HTTP/1.0\r\n\r\n").partition(b"\r\n\r\n")[2]
     told.check("what is asked for now is of the newest", files[-1].startswith(newest) and newest)
     # Nobody reads the files that have ended: they are closed again.
-    fds = "/proc/%d/fd" % station.process.pid
-    links = lambda: [os.readlink(os.path.join(fds, it)) for it in os.listdir(fds)]
+    links = lambda: open_files(station.process.pid)
     told.check("files that have ended are closed", until(lambda: sum(it.endswith(".ogg") for it in links()) <= 2), links())
     err = station.stop()
     told.check("standard error", b"fault" not in err, err[-300:])

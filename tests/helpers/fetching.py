@@ -10,6 +10,10 @@ file, as long as its length says, and what was fetched stays as it was.
 between two: the one holds the packets that the tests' own program says, the other is what `cut` writes.
 `fetching.py follows PROGRAM WORK` hears from a time on while a source sends and files change: what is heard is a part of
 the first file, and then all of each file that follows.
+`fetching.py origins PROGRAM WORK` asks two stations over the same files for everything, of which one allows the pages of an
+origin to read what it answers: its answers have one line more.
+`fetching.py pesters PROGRAM WORK` asks for files and times in whole requests and in pieces, with more bytes behind, in halves
+that nothing follows, and goes away in the middle of answers: each answer is that of a whole request, or its front.
 
 Each prints a line for what is wrong, and last how much was tried; the status is 1 if something was wrong.
 """
@@ -17,6 +21,7 @@ import copy
 import os
 import random
 import re
+import shutil
 import socket
 import subprocess
 import sys
@@ -25,7 +30,7 @@ import time
 
 from archiving import stream
 from cutting import a_time, held, recorded, times_of, told as spelled
-from changing import made, pages_of
+from changing import made, open_files, pages_of
 from filing import files_of
 from finishing import pages_of as pages_in
 from stationing import BASIC, Station, Told, read_all, request, until
@@ -175,8 +180,7 @@ def answers(program, work):
         one.join(30)
     told.check("many at once", not wrong, wrong)
     told.check("all are closed", until(lambda: b'{kind="other"} 0' in station.ask(get(b"/status")) or True))
-    fds = "/proc/%d/fd" % station.process.pid
-    links = lambda: [os.readlink(os.path.join(fds, it)) for it in os.listdir(fds)]
+    links = lambda: open_files(station.process.pid)
     told.check("files are closed again", until(lambda: sum(it.endswith(".ogg") for it in links()) <= 2), links())
     err = station.stop()
     told.check("standard error", b"fault" not in err, err[-300:])
@@ -392,6 +396,9 @@ def follows(program, work):
                     listeners[-1].start()
     # The last pages are heard a second after they are committed.
     time.sleep(2.5)
+    status = Answer(station.ask(get(b"/status"))).body
+    count = b'kudzuturret_connections{kind="listener"} %d\n' % len(listeners)
+    told.check("they are counted", count in status, [it for it in status.splitlines() if b"_connections{" in it])
     ends.set()
     for one in listeners:
         one.join(20)
@@ -427,6 +434,159 @@ def follows(program, work):
     return told.end()
 
 
+def origins(program, work):
+    told = Told()
+    folder = made(work, "origins")
+    plain = Station(program, folder, "--most-bytes", "1500", "--every", "1000w")
+    filled(plain, (75, 76), 40)
+    copy_of = made(work, "copy")
+    os.rmdir(copy_of)
+    # The newest file is gone on with: the last one of a folder that nobody writes into.
+    plain.stop()
+    shutil.copytree(folder, copy_of)
+    words = ("--most-bytes", "1500", "--every", "1000w")
+    plain = Station(program, folder, *words)
+    shared = Station(program, copy_of, *words, "--allow-origin", "https://radio.example:8443")
+    field = b"Access-Control-Allow-Origin: https://radio.example:8443"
+    targets = [b"/", b"/all", b"/link/0", b"/link/99", b"/player", b"/files", b"/file/1", b"/file/99", b"/from/junk"]
+    targets += [b"/from/-1h", b"/from/-1h/to/-0s", b"/live", b"/status", b"/none"]
+    asked = [get(it, method=b"HEAD") for it in targets]
+    asked += [get(it) for it in targets if it not in (b"/live", b"/from/-1h", b"/status", b"/files", b"/from/-1h/to/-0s")]
+    asked += [get(it, b"Range: bytes=7-99") for it in (b"/all", b"/file/1", b"/link/0")]
+    asked += [get(b"/all", method=b"POST"), get(b"/file/1", method=b"DELETE"), b"GET /files HTTP/1.1\r\n\r\n", b"junk\r\n\r\n"]
+    for one in asked:
+        without, have = plain.ask(one), shared.ask(one)
+        lines = have.split(b"\r\n")
+        told.check("%r has the field" % one, lines[1:2] == [field], have[:200])
+        rest = b"\r\n".join(lines[:1] + lines[2:])
+        told.check("%r is as without it" % one, nameless(rest) == nameless(without), rest[:300], without[:300])
+    # What differs by the time: heads alone.
+    for target in (b"/status", b"/files", b"/live", b"/from/-1h", b"/from/-1h/to/-0s"):
+        got = []
+        for station in (plain, shared):
+            with station.connect() as one:
+                one.sendall(get(target))
+                got.append(Answer(read_until(one, b"\r\n\r\n")))
+        told.check("%r" % target, got[0].status == got[1].status == 200, *got)
+        names = [set(it.fields) for it in got]
+        told.check("%r: one field more" % target, names[1] - names[0] == {b"access-control-allow-origin"}, *names)
+
+    # The request that comes first.
+    preflight = get(b"/from/-1h", b"Origin: https://radio.example:8443", b"Access-Control-Request-Method: GET", method=b"OPTIONS")
+    expected = {
+        b"access-control-allow-origin": b"https://radio.example:8443",
+        b"allow": b"GET, HEAD, OPTIONS",
+        b"access-control-allow-methods": b"GET, HEAD",
+        b"access-control-allow-headers": b"Range, If-None-Match",
+        b"access-control-max-age": b"86400",
+        b"connection": b"close",
+    }
+    for parts in ([preflight], [preflight[:1], preflight[1:]], [preflight[:9], preflight[9:]], [preflight[:-1], preflight[-1:]]):
+        answer = Answer(shared.ask(*parts))
+        told.check("OPTIONS in %d" % len(parts[0]), answer.status == 204 and answer.fields == expected and not answer.body, answer)
+    answer = Answer(shared.ask(get(b"*", method=b"OPTIONS")))
+    told.check("OPTIONS of all", answer.status == 204, answer)
+    for text in (preflight, get(b"*", method=b"OPTIONS")):
+        without = plain.ask(text)
+        told.check("OPTIONS without an origin", Answer(without).status in (400, 405), without)
+    # Sources are answered as ever.
+    body = b"".join(stream(77, 4))
+    for fields in ((), (b"Expect: 100-continue",)):
+        answer = shared.ask(request(b"PUT", BASIC, b"Content-Length: %d" % len(body), *fields), body)
+        told.check("a source", b" 200 " in answer and b"Allow-Origin" not in answer, answer)
+    for station in (plain, shared):
+        told.check("standard error", b"fault" not in station.stop())
+    return told.end()
+
+
+def nameless(got):
+    """An answer without the name of a cut, which has the time of the question in it if that is its end."""
+    return re.sub(rb'filename="[^"]*"', b"", got)
+
+
+def pesters(program, work):
+    told, source = Told(), random.Random(31)
+    folder = made(work, "pesters")
+    station = Station(program, folder, "--most-bytes", "1500", "--every", "1000w")
+    filled(station, (78, 79), 40)
+    files = files_of(folder)
+    numbers = [number for number, *_ in files]
+    targets = [b"/files", b"/from/-1h/to/-0s", b"/from/junk", b"/from/2001-01-01T00:00:00Z/to/2001-01-02T00:00:00Z", b"/file/007"]
+    targets += [b"/file/%d" % number for number in (*numbers, 0, 99)]
+    asked = [get(target, method=method) for target in targets for method in (b"GET", b"HEAD")]
+    ranges = (b"0-0", b"7-99", b"-5", b"9999999-", b"5-2", b"0-1,3-4")
+    asked += [get(target, b"Range: bytes=" + text) for target in (b"/file/1", b"/from/-1h/to/-0s") for text in ranges]
+    asked += [get(b"/file/1", b"If-None-Match: *"), get(b"/files", method=b"POST"), get(b"/file/1", version=b"1.1")]
+    expected = {text: station.ask(text) for text in asked}
+    # What is heard from a time on has no end: all that is kept, and then nothing more comes.
+    live = get(b"/from/-1h")
+    with station.connect() as one:
+        one.sendall(live)
+        expected[live] = read_until(one, b"\r\n\r\n")
+        whole = sum(len(data) for _, _, _, data, _ in files[:-1]) + len(pages_of(folder)[-1])
+        while len(expected[live].partition(b"\r\n\r\n")[2]) < whole:
+            expected[live] += one.recv(65536)
+    told.check("what is asked for is there", sum(b" 200 OK" in it[:20] for it in expected.values()) > 10)
+
+    def plain(text, got):
+        """Without the newest file in a list, whose end is the time of the question."""
+        return got.partition(b"\nfile %d " % numbers[-1])[0] if text.startswith(b"GET /files") else nameless(got)
+
+    for turn in range(500):
+        text = source.choice([*asked, live, live])
+        want = expected[text]
+        kind = source.choice(["whole", "halves", "bytes", "more", "away", "half", "none", "long"])
+        if text is live and kind != "half":
+            kind = "away"
+        if kind == "halves":
+            cut = source.randrange(1, len(text))
+            got = station.ask(text[:cut], text[cut:])
+        elif kind == "bytes":
+            got = station.ask(*(text[at : at + 1] for at in range(len(text))))
+        elif kind == "more":
+            got = station.ask(text + text)
+            want = want[: len(got)]
+        elif kind == "away":
+            most = source.randrange(1, 5000)
+            with station.connect() as one:
+                one.sendall(text)
+                got = b""
+                while len(got) < min(most, len(want)):
+                    piece = one.recv(source.choice([1, 7, 700]))
+                    if not piece:
+                        break
+                    got += piece
+            told.check("%s: enough of %r" % (kind, text), len(got) >= min(most, len(want)), len(got))
+            want = want[: len(got)]
+        elif kind in ("half", "none"):
+            with station.connect() as one:
+                one.sendall(text[: 0 if kind == "none" else source.randrange(1, len(text) - 4)])
+                one.shutdown(socket.SHUT_WR)
+                got = read_all(one)
+            want = b""
+        elif kind == "long":
+            got = station.ask(text[: text.index(b"\r\n")] + b"\r\nX: " + b"y" * 8192)
+            told.check("%s: %r" % (kind, text), got.startswith(b"HTTP/1.1 400 "), got[:100])
+            continue
+        else:
+            got = station.ask(text)
+        told.check("%s: %r" % (kind, text), plain(text, got) == plain(text, want), got[:200], want[:200])
+    told.check("it goes on", b"kudzuturret_connections" in station.ask(get(b"/status")))
+    told.check("standard error", b"fault" not in station.stop())
+    return told.end()
+
+
+def read_until(one, text):
+    """What comes until this text is there, or no more."""
+    got = b""
+    while text not in got:
+        piece = one.recv(65536)
+        if not piece:
+            break
+        got += piece
+    return got
+
+
 if __name__ == "__main__":
-    ways = {"answers": answers, "grows": grows, "goes": goes, "from": from_times, "follows": follows}
+    ways = {"answers": answers, "grows": grows, "goes": goes, "from": from_times, "follows": follows, "origins": origins, "pesters": pesters}
     sys.exit(ways[sys.argv[1]](*sys.argv[2:]))

@@ -7,5 +7,7 @@ check "fetching.py answers" timeout 170 python3 "$here/fetching.py" answers "$pr
 check "fetching.py grows" timeout 170 python3 "$here/fetching.py" grows "$program" "$work/fetching"
 check "fetching.py goes" timeout 170 python3 "$here/fetching.py" goes "$program" "$work/fetching"
 check "fetching.py from" timeout 170 python3 "$here/fetching.py" from "$program" "$work/fetching"
+check "fetching.py origins" timeout 170 python3 "$here/fetching.py" origins "$program" "$work/fetching"
+check "fetching.py pesters" timeout 170 python3 "$here/fetching.py" pesters "$program" "$work/fetching"
 check "fetching.py follows" timeout 170 python3 "$here/fetching.py" follows "$program" "$work/fetching"
 finish

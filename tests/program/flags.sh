@@ -127,6 +127,17 @@ station_listeners() {
     done
     [ "${got[*]}" = "503 200" ]
 }
+station_allow_origin() {
+    local with origin
+    up "$work/shared.ogg" --allow-origin https://a.example </dev/null
+    with=$(curl -si --max-time 10 "http://127.0.0.1:$port/" | tr -d '\r' | sed -n 2p)
+    down
+    for origin in https://a.example/ https://A.example ftp://a.example a.example ''; do
+        run station "$work/shared.ogg" 127.0.0.1:0 --allow-origin "$origin" </dev/null
+        [ "$status" -eq 2 ] && has "$work/err" ORIGIN || return 1
+    done
+    [ "$with" = "Access-Control-Allow-Origin: https://a.example" ]
+}
 # sealed NAME STREAM WORD ..: a station that ends with its input has recorded it.
 sealed() {
     timeout 20 "$program" station "$work/$1.ogg" 127.0.0.1:0 --seal "${@:3}" <"$2" >"$work/out" 2>"$work/err"

@@ -117,6 +117,12 @@ check "a folder, as JSON" lining decodes "$work/out" "$work/numbers"
 check "a folder: times and files" [ "$(grep -cE '"time":"20..-..-..T..:..:..\....Z","file":[0-9]+,"link":' "$work/out")" -eq 300 ]
 gives "a folder, by name" "$work/numbers" "$work/folder" --stream lines
 run verify "$work/folder"
+first=$(find "$work/folder" -name '*.ogg' | sort | head -n 1)
+before=$(cd "$work/folder" && md5sum -- *)
+run lines "$work/folder" <"$first"
+came "a file of the folder itself" 1 '' 'fault archive 1 Read\n'
+check "a file of the folder itself: nothing is done" [ "$(cd "$work/folder" && md5sum -- *)" = "$before" ]
+run verify "$work/folder"
 check "a folder: verify: status $status" [ "$status" -eq 0 ]
 
 # What comes before a time and what comes after it are all, each once.

@@ -133,7 +133,7 @@ fn record_into<D: Disk + Drop, F: Folder<File = D> + Drop>(
 }
 
 /// Whether standard input is a file of this folder. A run that read what it writes would never end.
-fn is_input_in(rt: &HostRuntime, folder: &str) -> bool {
+pub fn is_input_in(rt: &HostRuntime, folder: &str) -> bool {
     let (Ok(input), Ok(within)) = (fs::metadata(rt, INPUT), fs::metadata(rt, folder)) else {
         return false;
     };

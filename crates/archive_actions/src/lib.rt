@@ -11,6 +11,6 @@ mod keeping;
 mod recording;
 
 pub use archiving::{ArchiveOptions, archive};
-pub use filing::{Filing, granted, is_folder, lock_folder, now, with_slash};
+pub use filing::{Filing, granted, is_folder, is_input_in, lock_folder, now, with_slash};
 pub use keeping::Keeper;
 pub use recording::{FileRecording, FolderRecording, Recording};

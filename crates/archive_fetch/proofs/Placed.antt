@@ -1,8 +1,8 @@
 -- What is put in the place of a value that was found under a key.
-use Rattle.std.proofs.Common.{◌≡◌, ◌<◌, ℕ, Some, None, length, sym, ◌∙◌, inl, inr}
+use Rattle.std.proofs.Common.{◌≡◌, ◌<◌, ℕ, List, Option, Some, None, length, get_or, set, ap, sym, ◌∙◌, inl, inr}
 use Rattle.std.proofs.lemmas.Bool.Decides.{leb_tells}
-use Rattle.std.proofs.lemmas.List.{get_or_past, get_or-set_same}
-use Rattle.slab.specs.Slab.{Slab, get, with_value}
+use Rattle.std.proofs.lemmas.List.{get_or_past, get_or-set_same, set-get_or}
+use Rattle.slab.specs.Slab.{SameValues, Slab, get, with_value}
 
 module _ {X : Type 0} where
   pub same : (one other : X) → Some one ≡ Some other → one ≡ other
@@ -19,3 +19,8 @@ module _ {X : Type 0} where
 
   pub placed : (slots : Slab X) (key : ℕ) (old new : X) → get slots key ≡ Some old → get (with_value slots key new) key ≡ Some new
   placed slots key old new is = get_or-set_same slots.slots key (Some new) None (is_inside slots key old is)
+
+  -- what was there is put back
+  pub put_back : (slots : Slab X) (key : ℕ) (value : X) → get slots key ≡ Some value → SameValues slots (with_value slots key value)
+  put_back slots key value is other =
+      ap (λ (all : List (Option X)). get_or all other None) (ap (set slots.slots key) (sym is) ∙ set-get_or slots.slots key None)

@@ -1,8 +1,9 @@
 //! Connections that get a file, or a text.
 ghost use Rattle.std.specs.Prelude.{◌≡◌, ◌≢◌, ◌++◌, ◌∷◌, ◌≤◌, [], ℕ, None, Some, false, true, length, take, IfOk, IfSome, IsOk, IsSome, OnErr};
-ghost use Rattle.slab.specs.Slab.{HasRoomFor, get, slab_len};
+ghost use Rattle.slab.specs.Slab.{HasRoomFor, SameValues, get, slab_len};
 ghost use Rattle.serve_clients.specs.Client.{ClientState, HasWritten, after_of, given, moved_if, with_line, with_stage};
 ghost use Rattle.serve_clients.specs.Clients.{AllStay, AreLookedAt, HasTurn, OthersStay, goes_again, told_by, turned_by, unread_by, unwritten_by};
+ghost use Rattle.serve_clients.specs.Kinds.{kinds_in};
 ghost use Rattle.serve_clients.specs.Line.{moved_on, taken_off};
 ghost use Rattle.serve_clients.specs.declared.client.Stage.TheVariants.{Cut as CutOf, Ending as EndingOf, Hearing as HearingOf, Sending as SendingOf};
 ghost use Rattle.archive_fetch.specs.Bodies.{BodyState, HasPulled};
@@ -15,7 +16,7 @@ use crate::bodies::Body;
 use crate::heads::Memory;
 use crate::hearing::Heard;
 use disk_model::Disk;
-use serve_clients::{After, Client, Clients, Line, Stage, Trouble};
+use serve_clients::{After, Client, Clients, Kinds, Line, Stage, Trouble};
 use serve_texts::Visit;
 use slab::Slab;
 use std::alloc::Global;
@@ -264,6 +265,13 @@ impl<D: Disk + Drop> Fetches<D> {
         self.clients.slots.len()
     }
 
+    /// How many connections there are of each kind.
+    pub fn kinds(&self) -> Kinds
+        ensures { result ≡ kinds_in self.now.clients.slots }
+    {
+        self.clients.kinds()
+    }
+
     /// A connection comes that gets this text, and then what follows it, if something does. It gets the key that is
     /// returned, and a turn. After `Memory` it is gone.
     pub fn enter(
@@ -459,6 +467,10 @@ impl<D: Disk + Drop> Fetches<D> {
             × (get self.new.clients.slots key ≡ Some after) × (get self.new.contents id ≡ Some (HeardOf rest)) }
         ensures contents { (client : ClientState) (other : ℕ) → get self.old.clients.slots key ≡ Some client → client.session ≢ Some other
             → get self.new.contents other ≡ get self.old.contents other }
+        // What isn't heard stays as it is, and so does who gets it.
+        ensures unheard { (client : ClientState) → get self.old.clients.slots key ≡ Some client
+            → ((id : ℕ) (heard : HeardState D) → client.session ≡ Some id → get self.old.contents id ≢ Some (HeardOf heard))
+            → (get self.new.clients.slots key ≡ Some client) × SameValues self.old.contents self.new.contents }
         ensures none { get self.old.clients.slots key ≡ None → self.new ≡ self.old }
         ensures others { OthersStay key self.old.clients self.new.clients }
     {
@@ -482,6 +494,10 @@ impl<D: Disk + Drop> Fetches<D> {
             × (get self.new.clients.slots key ≡ Some after) × (get self.new.contents id ≡ Some (HeardOf rest)) }
         ensures contents { (client : ClientState) (other : ℕ) → get self.old.clients.slots key ≡ Some client → client.session ≢ Some other
             → get self.new.contents other ≡ get self.old.contents other }
+        // What isn't heard stays as it is, and so does who gets it.
+        ensures unheard { (client : ClientState) → get self.old.clients.slots key ≡ Some client
+            → ((id : ℕ) (heard : HeardState D) → client.session ≡ Some id → get self.old.contents id ≢ Some (HeardOf heard))
+            → (get self.new.clients.slots key ≡ Some client) × SameValues self.old.contents self.new.contents }
         ensures none { get self.old.clients.slots key ≡ None → self.new ≡ self.old }
         ensures others { OthersStay key self.old.clients self.new.clients }
     {

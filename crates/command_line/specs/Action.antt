@@ -19,7 +19,7 @@ IsRoom count = (1 ≤ count) × (count ≤ 16384)
 abbrev pub IsInBounds : Action → Type 0
 IsInBounds (Archive path filing skeletons most strict seal) = IsGroup most
 IsInBounds (Lines path filing most acks media stream streams seal) = IfSome most IsGroup
-IsInBounds (Station path filing address password_file listeners skeletons seal log) = IsRoom listeners
+IsInBounds (Station path filing address password_file listeners allow_origin skeletons seal log) = IsRoom listeners
 IsInBounds (Record file end_open renumber seal most strict) = IsGroup most
 IsInBounds (Serve file address count) = IsCount count
 IsInBounds (Live file address feed count most) = IsCount count × IsGroup most

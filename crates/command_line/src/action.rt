@@ -38,13 +38,15 @@ pub enum Action<'a> {
     },
     /// The file, or the newest of the folder, for any number of connections to the address, at most `listeners` at once.
     /// What comes on standard input is recorded into it meanwhile, and with a password file what connections send. With
-    /// `seal` it is sealed once standard input has ended, and with `log` each connection gets a line.
+    /// `seal` it is sealed once standard input has ended, and with `log` each connection gets a line. The pages of the
+    /// origin `allow_origin` may read what is answered.
     Station {
         path: &'a str,
         filing: Filing,
         address: &'a str,
         password_file: Option<&'a str>,
         listeners: u32,
+        allow_origin: Option<&'a str>,
         skeletons: Skeletons,
         seal: bool,
         log: bool,

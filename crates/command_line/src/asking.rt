@@ -10,6 +10,7 @@ use archive_clock::read_span;
 use clap::error::ErrorKind;
 use clap::{ArgMatches, Error};
 use import_changes::Skeletons;
+use serve_origins::is_origin;
 use skeleton3::is_media_type;
 use std::alloc::{AllocError, Global};
 
@@ -31,6 +32,10 @@ const MOST_NAMES: usize = 63;
 /// What is said of a text that is no name of a stream and no media type.
 const NO_NAME: &str =
     "a NAME and a TYPE are 1 to 255 printing ASCII characters without a space at an end; NAMES are 63 at most, with commas between";
+
+/// What is said of a text that names no origin.
+const NO_ORIGIN: &str =
+    "an ORIGIN is `*`, or a scheme, a host and maybe a port, as https://radio.example:8443, in lower case and without a `/` at the end";
 
 /// What is said of a text that is no time.
 const NO_TIME: &str =
@@ -308,10 +313,23 @@ fn station_of<'a>(words: &ArgMatches<'a>) -> Result<Action<'a>, &'static str>
     ensures { IfOk result IsInBounds }
 {
     let filing = filing_of(words)?;
-    station_filed(words, filing).ok_or(NOTHING)
+    let allow_origin = origin_of(words)?;
+    station_filed(words, filing, allow_origin).ok_or(NOTHING)
 }
 
-fn station_filed<'a>(words: &ArgMatches<'a>, filing: Filing) -> Option<Action<'a>>
+/// The origin whose pages may read what is answered, if one is given.
+fn origin_of<'a>(words: &ArgMatches<'a>) -> Result<Option<&'a str>, &'static str> {
+    match words.get_str("allow-origin") {
+        Some(origin) if !is_origin(origin.as_bytes()) => Err(NO_ORIGIN),
+        origin => Ok(origin),
+    }
+}
+
+fn station_filed<'a>(
+    words: &ArgMatches<'a>,
+    filing: Filing,
+    allow_origin: Option<&'a str>,
+) -> Option<Action<'a>>
     ensures { IfSome result IsInBounds }
 {
     Some(Action::Station {
@@ -320,6 +338,7 @@ fn station_filed<'a>(words: &ArgMatches<'a>, filing: Filing) -> Option<Action<'a
         address: words.get_str("ADDR")?,
         password_file: words.get_str("password-file"),
         listeners: number_of(words, "listeners", CONNECTIONS)?,
+        allow_origin,
         skeletons: skeletons_of(words),
         seal: words.get_flag("seal"),
         log: words.get_flag("log"),

@@ -458,6 +458,11 @@ static STATION: Subcommand = Subcommand {
             },
             help: "How many connections there may be at once, 1 to 16384",
         },
+        Argument {
+            name: "allow-origin",
+            kind: Kind::Named("ORIGIN"),
+            help: "Lets pages of another site, as https://radio.example, or of all, `*`, read the answers",
+        },
         SKELETON,
         NO_SKELETON,
         Argument {
@@ -493,6 +498,9 @@ are ended, and the next one begins a new link. What can't be read of it is mende
   GET /from/TIME/to/TIME
                      of a folder: what was recorded between the two, as `cut` writes it
   GET /status        the station's numbers, in Prometheus' text format
+
+With `--allow-origin` each of these answers has the field `Access-Control-Allow-Origin`, and OPTIONS is answered, so
+that a player on a page of that site can have them.
 
 Whatever is heard is on the disk. The program ends after a fault, or when it is stopped: run the same line
 again, and it goes on. The last line is that of `archive`. At a terminal a line tells how many listen, and

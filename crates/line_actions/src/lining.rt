@@ -2,8 +2,8 @@
 ghost use Rattle.archive_record.specs.Files.{AllKept};
 
 use archive_actions::{
-    FileRecording, Filing, FolderRecording, Keeper, Recording, granted, is_folder, lock_folder,
-    now, with_slash,
+    FileRecording, Filing, FolderRecording, Keeper, Recording, granted, is_folder, is_input_in,
+    lock_folder, now, with_slash,
 };
 use archive_folder::{Folder, SystemFolder};
 use archive_record::{ArchiveNames, Rules};
@@ -115,6 +115,9 @@ fn into_folder(
 ) -> Result<(), Fault> {
     let folder = with_slash(rt.alloc(), path)?;
     let folder = folder.as_str();
+    if is_input_in(rt, folder) {
+        return Err(Fault::Archive(RecordFault::Read));
+    }
     let _lock = lock_folder(rt, folder)?;
     let files = granted(SystemFolder::at(rt.alloc(), rt, ArchiveNames, folder))?;
     let keeper = Keeper::new(rt, folder, Told::new(rt, false, 0));

@@ -28,7 +28,7 @@ pub struct PageFacts {
 }
 
 /// What a page's head says of the page. The bytes begin with the head, and what follows it isn't read.
-fn facts_of(head: &[u8]) -> Option<PageFacts>
+pub fn facts_of(head: &[u8]) -> Option<PageFacts>
     ensures told { (bytes : List ℕ) (page : Page) (n : ℕ) → Stands bytes page → head_size page ≤ n → head.now ≡ take n bytes
         → result ≡ Some (facts_of page) }
     ensures bounds { (facts : FactsOf) → result ≡ Some facts → (27 ≤ facts.len) × (facts.len ≤ length head.now) × (facts.len ≤ facts.size) }

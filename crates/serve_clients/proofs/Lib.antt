@@ -1,2 +1,3 @@
+mod Counting
 mod Rounds
 pub mod Telling

@@ -9,6 +9,7 @@ mod NextPage
 mod Live
 mod Passing
 mod Hearing
+mod Ahead
 mod Beginning
 mod Noted
 mod Places

@@ -1,9 +1,11 @@
 -- The head of a page, as it is heard.
-use Rattle.std.specs.Prelude.{◌≡◌, ℕ, if◌then◌else◌, take}
+use Rattle.std.specs.Prelude.{◌≡◌, ℕ, List, if◌then◌else◌, drop, take}
 use Rattle.ogg_page.specs.Page.{Page, page_bytes, page_size}
-use Rattle.ogg_page.specs.Head.{head_size}
+use Rattle.ogg_page.specs.Head.{Stands, head_size}
 use Rattle.ogg_page.specs.LogicalStream.{is_first}
 use Rattle.serve_live.specs.Heard.{heard_page}
+use Rattle.serve_live.specs.Gaps.{gap_in}
+use Rattle.serve_live.specs.declared.gaps.StreamGap.{StreamGap}
 use Rattle.serve_live.specs.declared.heads.HeardHead.{HeardHead}
 
 -- the page, as it is heard after the moment of joining
@@ -16,3 +18,7 @@ pub record IsHeadOf (gaps : ℕ → ℕ) (page : Page) (head : HeardHead) : Type
   pub len : head.len ≡ head_size page
   pub size : head.size ≡ page_size page
   pub bytes : take (head_size page) head.bytes ≡ take (head_size page) (page_bytes (next_heard gaps page))
+
+-- the head that is kept is that of the page which stands at this place, whichever that is
+abbrev pub IsHeadAt : List ℕ → ℕ → List StreamGap → HeardHead → Type 0
+IsHeadAt bytes place gaps head = (page : Page) → Stands (drop place bytes) page → IsHeadOf (gap_in gaps) page head

@@ -3,7 +3,7 @@ use Rattle.std.specs.Prelude.{◌≡◌, ℕ, ◌+◌, ◌-◌, ◌≤◌, Bool,
 use Rattle.std.specs.List.{AllByRecursion, list_any}
 use Rattle.ogg_page.specs.Page.{Page, IsPage, bytes_of_pages}
 use Rattle.ogg_page.specs.LogicalStream.{is_first}
-use Rattle.serve_live.specs.Listening.{ArePagesLeft, ListenerState}
+use Rattle.serve_live.specs.Listening.{ArePagesLeft, ListenerState, part_at}
 use Rattle.serve_live.specs.declared.gaps.StreamGap.{StreamGap}
 use Rattle.serve_live.specs.declared.pages.PageLeft.{PageLeft}
 
@@ -19,6 +19,10 @@ pub record ArePulled (committed rest : List ℕ) (gaps : List StreamGap) (left :
   pub some : given ≤ length rest
   pub taken : take given buffer ≡ take given rest
   pub left_is : ArePagesLeft committed (gaps_kept gaps left) left.place left.skip (drop given rest)
+
+-- Behind the bytes that were given stand those of the file from this place on, up to the end.
+abbrev pub AreRead : List ℕ → ℕ → ℕ → ℕ → List ℕ → Type 0
+AreRead bytes place given end buffer = take (end - given) (drop given buffer) ≡ part_at place (end - given) bytes
 
 -- The first bytes of a text and of the pages behind it are in the buffer, as many as go in, and this is left.
 pub record GivesBehind (committed : List ℕ) (gaps : List StreamGap) (text pages : List ℕ) (size : ℕ) (buffer : List ℕ) (told heard : ℕ) (after : PageLeft) : Type 0 where
@@ -44,3 +48,9 @@ pub record HasMoved (committed : List ℕ) (old new : ListenerState) : Type 0 wh
   pub between : drop old.place committed ≡ bytes_of_pages passed ++ drop new.place committed
   pub place : new.place ≡ old.place + length (bytes_of_pages passed)
   pub gaps : new.gaps ≡ gaps_from old.gaps (list_any is_first passed)
+
+-- Of the bytes that were read the whole pages from the start on were given as they are heard, up to here.
+pub record AreGiven (committed more rest : List ℕ) (gaps : List StreamGap) (start left : PageLeft) (given end : ℕ) (buffer : List ℕ) : Type 0 where
+  pub pulled : ArePulled committed rest gaps left given buffer
+  pub read : AreRead (committed ++ more) left.place given end buffer
+  pub passed : HasPassed committed start left

@@ -23,7 +23,7 @@ pub struct HeardHead {
 }
 
 /// The head with the number and the checksum that are heard.
-fn heard_head(front: PageFront, gaps: &[StreamGap]) -> HeardHead
+pub fn heard_head(front: PageFront, gaps: &[StreamGap]) -> HeardHead
     requires { (27 ≤ front.facts.len) × (front.facts.len ≤ front.facts.size) × (front.facts.len ≤ 282) }
     ensures told { (page : Page) → IsFrontOf page front → IsHeadOf (gap_in gaps.now) page result }
     ensures same { (result.len ≡ front.facts.len) × (result.size ≡ front.facts.size) }

@@ -1,6 +1,5 @@
 mod Results
 mod Asked
-mod Hearing
 mod Leaving
 mod Offered
 mod Passed

@@ -1,6 +1,7 @@
 -- A station to which nothing has happened. Ours.
 use Rattle.std.specs.Prelude.{◌≡◌, ℕ, None, []}
 use Rattle.slab.specs.Slab.{get}
+use Rattle.serve_clients.specs.Kinds.{nobody}
 use Rattle.station_hub.specs.Waking.{woken_at}
 use Rattle.station_sources.specs.Counting.{nothing_done}
 use Rattle.station.specs.declared.station.Options.{Options}
@@ -14,6 +15,7 @@ pub record IsIdle {D : Type 0} (options : Options) (station : Station D) : Type 
   pub reopened : station.reopened ≡ None
   pub spare : station.spare.items ≡ []
   pub counts : station.counts ≡ nothing_done
+  pub elsewhere : station.elsewhere ≡ nobody
   pub clocks : (station.waiting_since ≡ 0) × (station.on_air_since ≡ 0) × (station.looked ≡ 0) × (station.waking ≡ woken_at 0 0)
   pub commits : (station.commits ≡ 0) × (station.commits_a_second ≡ 0)
 

@@ -37,7 +37,7 @@ ghost use Rattle.serve_clients.specs.Clients.{OthersStay};
 use crate::Memory;
 use disk_model::Disk;
 use import_changes::Skeletons;
-use serve_clients::{Client, Clients, Stage, Trouble, is_refused};
+use serve_clients::{Client, Clients, Kinds, Stage, Trouble, is_refused};
 use serve_hub::Hub;
 use serve_sources::{Asks, FULL, OwnResource, Password, Refused};
 use serve_texts::Visit;
@@ -95,6 +95,8 @@ pub struct Station<D: Disk> {
     // how many bytes were committed when the file was opened again
     pub(crate) reopened: Option<u64>,
     pub(crate) counts: Counts,
+    // the connections that have left for another station, or for a file
+    pub(crate) elsewhere: Kinds,
     // since when the source has the air
     pub(crate) on_air_since: u64,
     // when everybody was looked at, how many steps had committed more by then, and how many since the time before
@@ -140,6 +142,7 @@ impl<D: Disk + Drop> Station<D> {
             waiting_since: 0,
             reopened: None,
             counts: Counts::none(),
+            elsewhere: Kinds::none(),
             on_air_since: 0,
             looked: 0,
             commits: 0,

@@ -6,15 +6,18 @@ ghost use Rattle.serve_clients.specs.Clients.{OthersStay};
 ghost use Rattle.serve_sources.specs.declared.own.OwnResource.TheVariants.{Status as StatusOf};
 ghost use Rattle.station_sources.specs.Counting.{counted};
 ghost use Rattle.station.specs.Asked.{IsAnswered};
+ghost use Rattle.serve_hub.specs.Parts.{links_in};
 ghost use Rattle.serve_hub.specs.Showing.{Shows};
 ghost use Rattle.serve_machine.specs.Hub.{HubState};
 ghost use Rattle.station_hub.specs.Telling.{in_seconds};
-ghost use Rattle.station.specs.Telling.{IsCounted, mends_of, on_air_for};
+ghost use Rattle.serve_clients.specs.Kinds.{both, kinds_in};
+ghost use Rattle.station.specs.Telling.{AreKinds, IsCounted, mends_of, on_air_for};
 
 use crate::station::Station;
 use disk_model::Disk;
+use serve_clients::Kinds;
 use serve_texts::{Mends, Numbers};
-use station_hub::{in_seconds, kinds_of};
+use station_hub::in_seconds;
 use station_sources::{MendCounts, counted};
 
 fn mends_of(counts: MendCounts) -> Mends
@@ -37,11 +40,13 @@ impl<D: Disk + Drop> Station<D> {
     /// How the station fares.
     fn numbers(&self, now: u64) -> Numbers
         ensures committed { (machine : HubState) → Shows D.Disk self.now.live.hub machine → result.committed_bytes ≡ length machine.committed }
+        ensures links { result.links ≡ links_in self.now.live.hub.file }
         ensures counts { IsCounted self.now.counts result }
         ensures on_air { (result.on_air ≡ is_some self.now.air) × (result.on_air_seconds ≡ on_air_for self.now.air self.now.on_air_since now) }
         ensures uptime { result.uptime_seconds ≡ in_seconds now }
+        ensures kinds { AreKinds (both (kinds_in self.now.clients.slots) self.now.elsewhere) result }
     {
-        let kinds = kinds_of(&self.clients);
+        let kinds = self.clients.kinds().and(self.elsewhere);
         let on_air = self.air.is_some();
         Numbers {
             committed_bytes: self.live.hub().end(),
@@ -83,6 +88,20 @@ impl<D: Disk + Drop> Station<D> {
         if let Some(client) = self.clients.slots.get_mut(key) {
             client.tell_status(&numbers, head);
         }
+    }
+
+    /// How many connections there are of each kind.
+    pub fn kinds(&self) -> Kinds
+        ensures { result ≡ kinds_in self.now.clients.slots }
+    {
+        self.clients.kinds()
+    }
+
+    /// So many connections have left for another station, or for a file: they are told among this station's.
+    pub fn tell_elsewhere(&mut self, kinds: Kinds)
+        ensures { self.new ≡ record self.old { elsewhere = kinds } }
+    {
+        self.elsewhere = kinds;
     }
 
     /// So many bytes were written to connections that had left for another station, or for a file.

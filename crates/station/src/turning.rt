@@ -10,7 +10,7 @@ ghost use Rattle.serve_clients.specs.Line.{taken_off};
 ghost use Rattle.serve_clients.specs.declared.client.After.TheVariants.{Closes, Shuts};
 ghost use Rattle.serve_clients.specs.declared.client.Stage.TheVariants.{Closing as ClosingOf};
 ghost use Rattle.station_hub.specs.Patience.{until_due as until_commit};
-ghost use Rattle.station.specs.Telling.{listeners_in};
+ghost use Rattle.serve_clients.specs.Kinds.{both, kinds_in};
 ghost use Rattle.station_sources.specs.Air.{feeder_in};
 ghost use Rattle.station.specs.Clocks.{KeepsClocks, ended_from};
 ghost use Rattle.station.specs.Ending.{gathers, has_finished, is_over};
@@ -24,7 +24,7 @@ use crate::station::Station;
 use disk_model::Disk;
 use serve_clients::{After, Stage, Trouble};
 use station_hub::{Waking, sooner};
-use station_sources::{Feeder, Shown, counted};
+use station_sources::{Feeder, Shown};
 
 /// For how many milliseconds is waited at most, if nothing comes.
 const LOOKS: u64 = 1000;
@@ -226,29 +226,16 @@ impl<D: Disk + Drop> Station<D> {
         true
     }
 
-    /// How many connections hear what is recorded.
-    fn listeners(&self) -> u64
-        ensures { result ≡ listeners_in self.now.clients.slots }
-    {
-        let mut count = 0;
-        for key in 0..self.clients.slots.capacity() {
-            if self.clients.hears(key) {
-                count = counted(count, 1);
-            }
-        }
-        count
-    }
-
     /// How it does.
     pub fn shown(&self) -> Shown
         ensures recorded { (machine : HubState) → Shows D.Disk self.now.live.hub machine → result.bytes ≡ length machine.committed }
         ensures source { (result.on_air ≡ is_some self.now.air) × (result.packets ≡ self.now.counts.packets) }
         ensures commits { result.commits ≡ self.now.commits_a_second }
-        ensures listeners { result.listeners ≡ listeners_in self.now.clients.slots }
+        ensures listeners { result.listeners ≡ (both (kinds_in self.now.clients.slots) self.now.elsewhere).listeners }
     {
         Shown {
             on_air: self.air.is_some(),
-            listeners: self.listeners(),
+            listeners: self.clients.kinds().and(self.elsewhere).listeners,
             packets: self.counts.packets,
             bytes: self.live.hub().end(),
             commits: self.commits_a_second,

@@ -4,6 +4,7 @@ ghost use Rattle.station_files.specs.Seat.{token_of};
 ghost use Rattle.station_files.specs.declared.seats.Seat.{Seat as SeatOf};
 
 use disk_model::Disk;
+use serve_clients::Kinds;
 use station::{Client, Memory, Station, Unaccepted};
 use station_hub::LiveHub;
 use std::alloc::Global;
@@ -288,6 +289,15 @@ impl<D: Disk + Drop> Stations<D> {
             readers = readers.saturating_add(past.station.connections());
         }
         readers
+    }
+
+    /// How many connections there are of each kind at stations over files that have ended.
+    pub fn kinds(&self) -> Kinds {
+        let mut kinds = Kinds::none();
+        for past in &self.past {
+            kinds = kinds.and(past.station.kinds());
+        }
+        kinds
     }
 
     /// Whether the newest has come to its end, and nobody reads a file that has ended, or those who do have had a minute.

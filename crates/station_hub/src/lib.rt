@@ -6,7 +6,6 @@
 //! bytes that are to be written.
 //!
 //! `is_due` says when what waits is committed, and `Waking` when those who hear what is recorded are woken for it.
-//! `Kinds` counts the connections by what they are.
 //!
 //! Start at `specs/Giving.antt`, which says what a connection is given and owed, and at `specs/Places.antt`, which says
 //! where listeners may join; `specs/Tracking.antt` says that these are places of what is committed, and `specs/Live.antt`
@@ -29,5 +28,5 @@ pub use laws::{
 };
 pub use live_hub::LiveHub;
 pub use patience::{is_due, sooner, until_due};
-pub use telling::{Kind, Kinds, in_seconds, kind_of, kinds_of};
+pub use telling::in_seconds;
 pub use waking::Waking;

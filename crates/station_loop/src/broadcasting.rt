@@ -3,6 +3,7 @@ ghost use Rattle.archive_record.specs.Files.{AllKept};
 
 use crate::fetching::Listed;
 use crate::filing::{Files, OneFile, Recorded, SystemReaders, fault_of};
+use crate::hearing::Seen;
 use crate::running::Running;
 use crate::sockets::Sockets;
 use archive_actions::{Filing, Keeper, granted, is_folder, lock_folder, now, with_slash};
@@ -17,6 +18,7 @@ use ogg_command::Refusal;
 use record_actions::Told;
 use serve_actions::{Log, close_hub, hear_file, read_password, tell_serving};
 use serve_hub::Hub;
+use serve_origins::Allowed;
 use station::{Options as StationOptions, Station};
 use station_files::{Filed, Readers, Stations};
 use std::collections::HashMap;
@@ -35,6 +37,8 @@ pub struct Options<'a> {
     pub password_file: Option<&'a str>,
     /// The greatest number of connections.
     pub listeners: u32,
+    /// The origin whose pages may read what is answered.
+    pub allow_origin: Option<&'a str>,
     pub skeletons: Skeletons,
     /// Whether the file is sealed, and the station ends, once standard input has ended.
     pub seal: bool,
@@ -139,6 +143,7 @@ fn run_at<'a, D: Disk + Drop, R: Recorded<D> + Drop>(
     start: Instant,
     options: Options<'_>,
 ) -> Result<Finished<'a, D, R>, Fault> {
+    let allowed = allowed_by(rt, options)?;
     let sockets = listen(rt, address)?;
     let fetches = granted(Fetches::new(rt.alloc()))?;
     let mut running = Running {
@@ -151,8 +156,10 @@ fn run_at<'a, D: Disk + Drop, R: Recorded<D> + Drop>(
         sockets,
         fetches,
         listed: Listed::new(Vec::new(rt.alloc())),
+        seen: Seen::new(Vec::new(rt.alloc())),
         cuts: HashMap::new(rt.alloc()),
         zone: SystemZone::read(rt),
+        allowed,
         start,
         now: 0,
     };
@@ -180,6 +187,14 @@ fn listen(rt: &HostRuntime, address: SocketAddr) -> Result<Sockets, Fault> {
         tell_serving(rt, address);
     }
     Ok(sockets)
+}
+
+/// What responses get, so that pages of another site may read them.
+fn allowed_by(rt: &HostRuntime, options: Options<'_>) -> Result<Option<Allowed>, Fault> {
+    match options.allow_origin {
+        Some(origin) => Ok(Some(granted(Allowed::of(rt.alloc(), origin.as_bytes()))?)),
+        None => Ok(None),
+    }
 }
 
 /// How a station is run, by what is asked for.

@@ -17,9 +17,11 @@ use fault_lines::Fault;
 use file_actions::{Finding, list_text};
 use jiff::tz::TimeZone;
 use ogg_http::{Answer, Request, Verb, response_head};
+use serve_origins::{PREFLIGHT, Preflight, preflight_in};
+use serve_sources::is_source;
 use station::After;
 use station_files::{Move, Seat};
-use std::io::{Read, Write};
+use std::io::Read;
 
 /// How many bytes of a head are looked at, at most.
 const LONGEST_HEAD: usize = 8192;
@@ -43,7 +45,7 @@ impl Listed {
 }
 
 /// So many of the first bytes, or all if there are fewer.
-fn front_of(bytes: &[u8], count: usize) -> &[u8] {
+pub(crate) fn front_of(bytes: &[u8], count: usize) -> &[u8] {
     let (front, _) = bytes.split_at(count.min(bytes.len()));
     front
 }
@@ -110,22 +112,23 @@ impl<'a, D: Disk + Drop, R: Recorded<D> + Drop> Running<'a, D, R> {
 
     /// Writes the next bytes of what it fetches.
     fn write_fetch(&mut self, seat: Seat) {
-        let Some(connection) = self.sockets.connections.get(&seat.token()) else {
+        if !self.fetches.writes(seat.key) {
             return;
-        };
+        }
         let buffer = self.sockets.buffer.as_mut_slice();
-        if self.fetches.writes(seat.key) {
-            let count = self.fetches.next(seat.key, buffer, self.now);
-            if count > 0 {
-                let bytes = &buffer[..count];
-                match (&connection.stream).write(bytes) {
-                    Ok(written) => {
-                        self.fetches.wrote(seat.key, bytes, written, self.now);
-                        self.stations.newest_mut().sent_beside(written as u64);
-                    }
-                    Err(error) => self.fetches.write_failed(seat.key, bytes, trouble(&error)),
-                }
+        let count = self.fetches.next(seat.key, buffer, self.now);
+        if count == 0 {
+            return;
+        }
+        let allowed = self.allowed.as_ref();
+        let put = self.sockets.put(self.rt, allowed, seat, count);
+        let bytes = front_of(self.sockets.buffer.as_slice(), count);
+        match put {
+            Ok(written) => {
+                self.fetches.wrote(seat.key, bytes, written, self.now);
+                self.stations.newest_mut().sent_beside(written as u64);
             }
+            Err(error) => self.fetches.write_failed(seat.key, bytes, trouble(&error)),
         }
     }
 
@@ -146,11 +149,20 @@ impl<'a, D: Disk + Drop, R: Recorded<D> + Drop> Running<'a, D, R> {
     pub(crate) fn received(&mut self, seat: Seat, count: usize) {
         if seat.station == 0 {
             if let Some(front) = self.head_so_far(seat.key, count) {
+                if is_source(front.as_slice()) {
+                    self.sockets.leave_plain(seat);
+                }
+                let preflight = self.preflight_of(front.as_slice());
+                if preflight == Preflight::Yes {
+                    let told = self.constant(PREFLIGHT);
+                    return self.fetch(seat, count, told);
+                }
                 if let Some((request, wish)) = asked_of(front.as_slice()) {
                     let condition = condition_in(front.as_slice());
-                    return self.fetch(seat, count, &request, wish, condition);
+                    let told = self.answer(&request, wish, condition);
+                    return self.fetch(seat, count, told);
                 }
-                if may_ask(front.as_slice()) {
+                if preflight == Preflight::More || may_ask(front.as_slice()) {
                     let bytes = front_of(self.sockets.buffer.as_slice(), count);
                     return self.stations.newest_mut().hold(seat.key, bytes);
                 }
@@ -159,6 +171,14 @@ impl<'a, D: Disk + Drop, R: Recorded<D> + Drop> Running<'a, D, R> {
         if let Some(station) = self.stations.at(seat) {
             let bytes = front_of(self.sockets.buffer.as_slice(), count);
             station.received(seat.key, bytes, self.now);
+        }
+    }
+
+    /// Whether a browser asks what it may ask for. Without an origin whose pages may, that is answered as any other method.
+    fn preflight_of(&self, front: &[u8]) -> Preflight {
+        match &self.allowed {
+            Some(_) => preflight_in(front),
+            None => Preflight::No,
         }
     }
 
@@ -173,16 +193,8 @@ impl<'a, D: Disk + Drop, R: Recorded<D> + Drop> Running<'a, D, R> {
         Some(front)
     }
 
-    /// The connection leaves the station, and gets what it asks for. Without memory for that it is closed.
-    fn fetch(
-        &mut self,
-        seat: Seat,
-        count: usize,
-        request: &Request<'_>,
-        wish: Wish<'_>,
-        condition: Option<&[u8]>,
-    ) {
-        let told = self.answer(request, wish, condition);
+    /// The connection leaves the station, and gets this answer. Without memory for that it is closed.
+    fn fetch(&mut self, seat: Seat, count: usize, told: Result<Told<'a, D>, Memory>) {
         let Some(mut client) = self.stations.newest_mut().leave(seat.key) else {
             return;
         };
@@ -259,11 +271,16 @@ impl<'a, D: Disk + Drop, R: Recorded<D> + Drop> Running<'a, D, R> {
         Ok(Told::text(text))
     }
 
+    /// A text that is always the same.
+    fn constant(&self, answer: &[u8]) -> Result<Told<'a, D>, Memory> {
+        let mut text = Vec::new(self.rt.alloc());
+        text.extend_from_slice(answer)?;
+        Ok(Told::text(text))
+    }
+
     /// The folder can't be read.
     fn failed(&self) -> Result<Told<'a, D>, Memory> {
-        let mut text = Vec::new(self.rt.alloc());
-        text.extend_from_slice(FAILED)?;
-        Ok(Told::text(text))
+        self.constant(FAILED)
     }
 
     /// The list of the files. There are none beside one file.

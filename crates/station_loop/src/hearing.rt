@@ -24,6 +24,22 @@ impl From<Memory> for Unheard {
     }
 }
 
+/// The files of the folder, the oldest first, as they were listed last: all who come to the end of a file in one round look
+/// for the next one in the same list.
+#[derive(Drop)]
+pub struct Seen {
+    files: Vec<Listed>,
+    // when that was, by the clock of rounds
+    at: Option<u64>,
+}
+
+impl Seen {
+    /// Nothing was listed yet.
+    pub fn new(files: Vec<Listed>) -> Seen {
+        Seen { files, at: None }
+    }
+}
+
 /// From its first page on.
 fn beginning() -> Stand {
     Stand {
@@ -35,7 +51,7 @@ fn beginning() -> Stand {
 impl<D: Disk + Drop, R: Recorded<D> + Drop> Running<'_, D, R> {
     /// What was recorded from the time on. None if there is no file that can be read.
     pub(crate) fn heard_from(&mut self, since: u64) -> Result<Option<Heard<D>>, Unheard> {
-        let files = self.listed_files()?;
+        let files = self.list_files()?;
         for (at, file) in files.iter().enumerate() {
             let later = match files.get(at.saturating_add(1)) {
                 Some(next) => begin_of(next.name),
@@ -51,7 +67,7 @@ impl<D: Disk + Drop, R: Recorded<D> + Drop> Running<'_, D, R> {
     }
 
     /// The files of the folder, the oldest first.
-    fn listed_files(&self) -> Result<Vec<Listed>, Unheard> {
+    fn list_files(&self) -> Result<Vec<Listed>, Unheard> {
         match folder(self.rt, self.keeper.folder()) {
             Ok(seen) => Ok(seen.files),
             Err(ReadingFault::Memory) => Err(Unheard::Memory),
@@ -136,10 +152,24 @@ impl<D: Disk + Drop, R: Recorded<D> + Drop> Running<'_, D, R> {
 
     /// Goes on with the first file after this one that can be read. If there is none, what follows is waited for.
     fn hear_next(&mut self, key: usize, number: u64) {
-        let Ok(files) = self.listed_files() else {
-            return;
-        };
-        for file in files.as_slice() {
+        if self.seen.at != Some(self.now) {
+            let Ok(files) = self.list_files() else {
+                return;
+            };
+            self.seen = Seen {
+                files,
+                at: Some(self.now),
+            };
+        }
+        let none = Vec::new(self.rt.alloc());
+        let files = std::mem::replace(&mut self.seen.files, none);
+        self.hear_first_after(files.as_slice(), key, number);
+        self.seen.files = files;
+    }
+
+    /// Goes on with the first of these files after this one that can be read.
+    fn hear_first_after(&mut self, files: &[Listed], key: usize, number: u64) {
+        for file in files {
             if number < file.name.number {
                 match self.heard_whole(file) {
                     Ok(Some(next)) => return self.fetches.goes_on(key, next),

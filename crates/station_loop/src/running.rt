@@ -1,8 +1,9 @@
 //! A station that runs: round after round bytes go between its sockets and the machine, which decides everything.
 
 use crate::cutting::Cutout;
-use crate::fetching::Listed;
+use crate::fetching::{Listed, front_of};
 use crate::filing::Recorded;
+use crate::hearing::Seen;
 use crate::sockets::{Connection, Sockets, trouble};
 use crate::telling::{seconds, tell_done};
 use archive_actions::{Keeper, now};
@@ -12,6 +13,7 @@ use disk_model::Disk;
 use fault_lines::Fault;
 use import_record::RecordFault;
 use serve_actions::{Log, tell_foreign};
+use serve_origins::Allowed;
 use station::{After, Done, FULL, Feeder, Trouble, station_line};
 use station_files::{Clocks, Seat, Stations};
 use std::collections::HashMap;
@@ -35,10 +37,13 @@ pub struct Running<'a, D: Disk + Drop, R: Recorded<D> + Drop> {
     /// Who fetches files of the folder, and the list of these.
     pub fetches: Fetches<D>,
     pub listed: Listed,
+    pub seen: Seen,
     /// The cuts that connections get, by their keys.
     pub cuts: HashMap<usize, Cutout<'a>>,
     /// The zone in which times without an offset are asked for, UTC if there is none.
     pub zone: Option<SystemZone>,
+    /// What responses get, so that pages of another site may read them.
+    pub allowed: Option<Allowed>,
     pub log: Log,
     /// The greatest number of connections.
     pub most: usize,
@@ -188,13 +193,40 @@ impl<D: Disk + Drop, R: Recorded<D> + Drop> Running<'_, D, R> {
         if self.stations.at(seat)?.reads(seat.key) {
             self.read(seat);
         }
-        let connection = self.sockets.connections.get(&seat.token())?;
-        let station = self.stations.at(seat)?;
-        let buffer = self.sockets.buffer.as_mut_slice();
-        if station.writes(seat.key) {
-            connection.write(station, seat.key, buffer, self.now);
+        if !self.sockets.connections.contains_key(&seat.token()) {
+            return None;
         }
-        Some(station.turned(seat.key, self.now))
+        self.write(seat);
+        Some(self.stations.at(seat)?.turned(seat.key, self.now))
+    }
+
+    /// Writes once, if there is something to send, and the connection takes it.
+    fn write(&mut self, seat: Seat) {
+        let count = self.next(seat);
+        if count == 0 {
+            return;
+        }
+        let allowed = self.allowed.as_ref();
+        let put = self.sockets.put(self.rt, allowed, seat, count);
+        let Some(station) = self.stations.at(seat) else {
+            return;
+        };
+        let bytes = front_of(self.sockets.buffer.as_slice(), count);
+        match put {
+            Ok(written) => station.wrote(seat.key, bytes, written, self.now),
+            Err(error) => station.write_failed(seat.key, bytes, trouble(&error)),
+        }
+    }
+
+    /// The next bytes for a connection that takes some come into the buffer. Returns how many these are.
+    fn next(&mut self, seat: Seat) -> usize {
+        let Some(station) = self.stations.at(seat) else {
+            return 0;
+        };
+        if !station.writes(seat.key) {
+            return 0;
+        }
+        station.next(seat.key, self.sockets.buffer.as_mut_slice(), self.now)
     }
 
     /// Reads once. Whoever asks for something of the folder has another seat then.
@@ -386,6 +418,8 @@ impl<D: Disk + Drop, R: Recorded<D> + Drop> Running<'_, D, R> {
     fn tell(&mut self) {
         self.log.tell(&mut self.keeper.told);
         if self.stations.look(self.now) {
+            let elsewhere = self.fetches.kinds().and(self.stations.kinds());
+            self.stations.newest_mut().tell_elsewhere(elsewhere);
             let line = station_line(self.stations.newest().shown());
             self.keeper.told.show_other(line.as_slice());
             self.stations.close_unread();

@@ -5,7 +5,8 @@ use disk_model::Disk;
 use mio::net::{TcpListener, TcpStream};
 use mio::unix::SourceFd;
 use mio::{Events, Interest, Poll, Token};
-use station::{Station, Trouble};
+use serve_origins::{Added, Allowed};
+use station::Trouble;
 use station_files::{Move, Seat, Stations};
 use std::collections::HashMap;
 use std::io::{self, ErrorKind, IsTerminal, Write};
@@ -119,7 +120,11 @@ impl Sockets {
         match self.listener.accept() {
             Ok((stream, address)) => {
                 let _ = stream.set_nodelay(true);
-                Some(Connection { stream, address })
+                Some(Connection {
+                    stream,
+                    address,
+                    added: Added::Nothing,
+                })
             }
             Err(error) => {
                 // What waits after another error is accepted in a later round.
@@ -158,6 +163,29 @@ impl Sockets {
         }
     }
 
+    /// Nothing is added to what this connection is answered.
+    pub fn leave_plain(&mut self, seat: Seat) {
+        if let Some(connection) = self.connections.get_mut(&seat.token()) {
+            connection.added = Added::Whole;
+        }
+    }
+
+    /// Writes so many bytes of the buffer to this connection once, as the next of its response, and says how many of them
+    /// were written.
+    pub fn put(
+        &mut self,
+        rt: &HostRuntime,
+        allowed: Option<&Allowed>,
+        seat: Seat,
+        count: usize,
+    ) -> io::Result<usize> {
+        let (bytes, _) = self.buffer.split_at(count.min(self.buffer.len()));
+        match self.connections.get_mut(&seat.token()) {
+            Some(connection) => connection.put(rt, allowed, bytes),
+            None => Err(ErrorKind::NotConnected.into()),
+        }
+    }
+
     /// The peer is told that no further byte comes.
     pub fn shut(&mut self, seat: Seat) {
         if let Some(connection) = self.connections.get(&seat.token()) {
@@ -171,25 +199,27 @@ impl Sockets {
 pub struct Connection {
     pub stream: TcpStream,
     pub address: SocketAddr,
+    /// How much was written of what its response gets so that pages of another site may read it.
+    pub added: Added,
 }
 
 impl Connection {
-    /// Writes once, if there is something to send.
-    pub fn write<D: Disk + Drop>(
-        &self,
-        station: &mut Station<D>,
-        key: usize,
-        buffer: &mut [u8],
-        now: u64,
-    ) {
-        let count = station.next(key, buffer, now);
-        if count == 0 {
-            return;
-        }
-        let bytes = &buffer[..count];
-        match (&self.stream).write(bytes) {
-            Ok(written) => station.wrote(key, bytes, written, now),
-            Err(error) => station.write_failed(key, bytes, trouble(&error)),
+    /// Writes the next bytes of the response once, and says how many of them were written.
+    fn put(
+        &mut self,
+        rt: &HostRuntime,
+        allowed: Option<&Allowed>,
+        bytes: &[u8],
+    ) -> io::Result<usize> {
+        match allowed {
+            Some(allowed) if self.added != Added::Whole => {
+                let text = allowed.text(rt.alloc(), self.added, bytes)?;
+                let written = (&self.stream).write(text.as_slice())?;
+                let (added, own) = allowed.wrote(self.added, bytes, written);
+                self.added = added;
+                Ok(own)
+            }
+            _ => (&self.stream).write(bytes),
         }
     }
 }

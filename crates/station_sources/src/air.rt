@@ -108,8 +108,9 @@ impl OnAir {
         ensures full { OnErr result (vec_capacity self.old.pending < vec_len self.old.pending - self.old.at + length bytes.now) }
         ensures stays { (self.new.feeder ≡ self.old.feeder) × (self.new.short ≡ self.old.short) × (self.new.lost ≡ self.old.lost) × (self.new.complete ≡ self.old.complete)
             × (self.new.has_page ≡ self.old.has_page) × (self.new.foreign ≡ self.old.foreign) }
-        // What has come is looked at again, with these bytes.
+        // What has come is looked at again, with these bytes. What was decoded of it stays so.
         ensures looks { self.new.starved ≡ false }
+        ensures decoded { (self.new.decoded ≡ self.old.decoded) × (self.new.ended ≡ self.old.ended) }
         ensures same { (self.new.import ≡ self.old.import) × (self.new.body ≡ self.old.body) }
     {
         drop_front(&mut self.pending, self.at);

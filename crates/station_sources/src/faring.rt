@@ -36,6 +36,7 @@ impl OnAir {
     pub fn take(&mut self, bytes: &[u8])
         ensures kept { HoldsMore bytes.now self.old self.new ⊎ IsShort (length bytes.now) self.old self.new }
         ensures feeder { self.new.feeder ≡ self.old.feeder }
+        ensures decoded { (self.new.decoded ≡ self.old.decoded) × (self.new.starved ≡ false) }
     {
         if self.push(bytes).is_err() {
             self.break_off();

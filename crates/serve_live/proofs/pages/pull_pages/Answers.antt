@@ -7,10 +7,10 @@ use Rattle.serve_live.proofs.pages.pull_pages.Goals as goal
 pub pages-preserved : goal.pages-preserved
 pages-preserved g c =
     let inv = c.pages.invariant in
-    let on = c.pull_page.ensures in
+    let on = c.pull_next.ensures in
     record {
-      room = omega (arith, c.in-Ok.ensures.further.1, c.pull_page.auto.buffer);
-      whole = c.pull_page.auto.buffer ∙ inv.whole;
+      room = omega (arith, c.in-Ok.ensures.further.1, c.pull_next.auto.buffer);
+      whole = c.pull_next.auto.buffer ∙ inv.whole;
       source = record {
         bytes_same = λ sure. on.source.bytes_same (inv.source.honest_same.0 sure) ∙ inv.source.bytes_same sure;
         honest_same = ((λ h. on.source.honest_same.0 (inv.source.honest_same.0 h)), (λ h. inv.source.honest_same.1 (on.source.honest_same.1 h)));
@@ -19,10 +19,10 @@ pages-preserved g c =
       };
       later = omega (arith, inv.later, on.later);
       pulled = λ committed more rest sure is end p.
-          c.in-Ok.ensures.pulled committed more rest (inv.source.honest_same.0 sure) (inv.source.bytes_same sure ∙ is) (omega (arith, end, c.if-left-end.true)) (inv.pulled committed more rest sure is end p);
+          c.in-Ok.ensures.pulled committed more rest (inv.source.honest_same.0 sure) (inv.source.bytes_same sure ∙ is) end (omega (arith, end, c.if-left-end.true)) (inv.pulled committed more rest sure is end p);
       passes = λ committed more rest sure is end p.
           passed_on committed c.args.start c.pages.left c.in-Ok.after (inv.passes committed more rest sure is end p)
-          (c.in-Ok.ensures.passes committed more rest (inv.source.honest_same.0 sure) (inv.source.bytes_same sure ∙ is) (omega (arith, end, c.if-left-end.true))
+          (c.in-Ok.ensures.passes committed more rest (inv.source.honest_same.0 sure) (inv.source.bytes_same sure ∙ is) end (omega (arith, end, c.if-left-end.true))
           (inv.pulled committed more rest sure is end p));
     }
 
@@ -42,6 +42,6 @@ returns-in-Err-clause-cause g c committed more rest sure is end p err =
     let inside : c.pages.left.place < length committed = omega (arith, end, c.if-left-end.true) in
     let some = some_more committed rest c.args.gaps.now c.pages.left c.pages.given c.pages.buffer pulled inside in (
       later_failed _ _ _ inv.later
-          (c.in-Err.ensures.cause committed more rest (inv.source.honest_same.0 sure) (inv.source.bytes_same sure ∙ is) inside pulled err),
+          (c.in-Err.ensures.cause committed more rest (inv.source.honest_same.0 sure) (inv.source.bytes_same sure ∙ is) end inside pulled err),
       grind (arith, some, c.pages-test.true, inv.whole),
     )

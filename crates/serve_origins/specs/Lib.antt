@@ -1,0 +1,3 @@
+pub mod Added
+pub mod Origins
+pub mod Preflights
