@@ -1,15 +1,12 @@
 //! A page under another serial, with another number.
-ghost use Rattle.std.specs.Prelude.{◌≡◌, ◌≤◌, ◌++◌, ℕ, List, length, replicate, take, drop, true};
+ghost use Rattle.std.specs.Prelude.{◌≡◌, ◌≤◌, ◌++◌, length, take, drop, true};
 ghost use Rattle.byteorder.specs.Endian.{little_bytes};
-ghost use Rattle.page_checksum.specs.Checksum.{checksum_of};
 ghost use Rattle.ogg_page.specs.Head.{header_of};
 ghost use Rattle.ogg_page.specs.Page.{Page, IsPage, page_bytes};
 ghost use Rattle.archive_cut.specs.Retold.{names_change, names_of, retold};
 
 use ogg_page::{PageHeader, SEQUENCE_END, checksum_on, read_header};
-
-/// How many zeros are added at once.
-const ZEROS: usize = 4096;
+use serve_live::with_zeros;
 
 /// What the checksum of a page of this size changes by under another serial and with another number. No byte of the
 /// page is needed.
@@ -31,24 +28,7 @@ fn names_change(old_serial: u32, old_number: u32, serial: u32, number: u32, size
         b2 ^ d2,
         b3 ^ d3,
     ];
-    with_many_zeros(checksum_on(0, &differing), size - SEQUENCE_END as u64)
-}
-
-/// The checksum of some bytes and this many zeros after them, from the checksum of the bytes. So many zeros are added at
-/// once that they are folded (page_checksum).
-fn with_many_zeros(before: u32, count: u64) -> u32
-    ensures { (front : List ℕ) → before ≡ checksum_of front → result ≡ checksum_of (front ++ replicate count 0) }
-{
-    let zeros = [0; ZEROS];
-    let mut sum = before;
-    let mut left = count;
-    while left > 0 {
-        let some = left.min(ZEROS as u64);
-        let (part, _) = zeros.split_at(some as usize);
-        sum = checksum_on(sum, part);
-        left -= some;
-    }
-    sum
+    with_zeros(checksum_on(0, &differing), size - SEQUENCE_END as u64)
 }
 
 /// Whether the page has this serial and this number already.

@@ -17,3 +17,5 @@ mod Growing
 mod Forgetting
 mod Kept
 mod HeardAll
+mod Moving
+mod Rows

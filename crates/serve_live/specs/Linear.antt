@@ -17,19 +17,19 @@ use Rattle.page_checksum.specs.Laws.ByteStep.{left_of, length-left_of}
 use Rattle.serve_live.specs.Renumbering.{front_of, back_of, xor_bytes}
 
 -- ---- bits
-bits-xor : (x y : ℕ) → x < 256 → y < 256 → bits_of 8 (bit_xor x y) ≡ add (bits_of 8 x) (bits_of 8 y)
-bits-xor x y hx hy =
-    let lx : length (bits_of 8 x) ≡ 8 = length-bits_of 8 x in
-    let ly : length (bits_of 8 y) ≡ 8 = length-bits_of 8 y in
-    let la : length (add (bits_of 8 x) (bits_of 8 y)) ≡ 8 = length-add (bits_of 8 x) (bits_of 8 y) ∙ lx in
-    let sum : number_of (add (bits_of 8 x) (bits_of 8 y)) ≡ bit_xor x y =
-    number-add (bits_of 8 x) (bits_of 8 y) (lx ∙ sym ly)
-    ∙ ap (λ n. bit_xor n (number_of (bits_of 8 y))) (number-bits_of 8 x ∙ mod-eq_of_lt hx)
-    ∙ ap (bit_xor x) (number-bits_of 8 y ∙ mod-eq_of_lt hy) in
-    let small : bit_xor x y < 2 ^ 8 =
-    subst (λ n. n < 2 ^ 8) sum (subst (λ k. number_of (add (bits_of 8 x) (bits_of 8 y)) < 2 ^ k) la (number_lt (add (bits_of 8 x) (bits_of 8 y)))) in
-    same_number (bits_of 8 (bit_xor x y)) (add (bits_of 8 x) (bits_of 8 y)) (length-bits_of 8 (bit_xor x y) ∙ sym la)
-    (number-bits_of 8 (bit_xor x y) ∙ mod-eq_of_lt small ∙ sym sum)
+pub bits-xor : (n x y : ℕ) → x < 2 ^ n → y < 2 ^ n → bits_of n (bit_xor x y) ≡ add (bits_of n x) (bits_of n y)
+bits-xor n x y hx hy =
+    let lx : length (bits_of n x) ≡ n = length-bits_of n x in
+    let ly : length (bits_of n y) ≡ n = length-bits_of n y in
+    let la : length (add (bits_of n x) (bits_of n y)) ≡ n = length-add (bits_of n x) (bits_of n y) ∙ lx in
+    let sum : number_of (add (bits_of n x) (bits_of n y)) ≡ bit_xor x y =
+    number-add (bits_of n x) (bits_of n y) (lx ∙ sym ly)
+    ∙ ap (λ k. bit_xor k (number_of (bits_of n y))) (number-bits_of n x ∙ mod-eq_of_lt hx)
+    ∙ ap (bit_xor x) (number-bits_of n y ∙ mod-eq_of_lt hy) in
+    let small : bit_xor x y < 2 ^ n =
+    subst (λ k. k < 2 ^ n) sum (subst (λ k. number_of (add (bits_of n x) (bits_of n y)) < 2 ^ k) la (number_lt (add (bits_of n x) (bits_of n y)))) in
+    same_number (bits_of n (bit_xor x y)) (add (bits_of n x) (bits_of n y)) (length-bits_of n (bit_xor x y) ∙ sym la)
+    (number-bits_of n (bit_xor x y) ∙ mod-eq_of_lt small ∙ sym sum)
 
 message-xor : (xs ys : List ℕ) → length xs ≡ length ys → AllByRecursion IsByte xs → AllByRecursion IsByte ys →
     message_bits (xor_bytes xs ys) ≡ add (message_bits xs) (message_bits ys)
@@ -38,7 +38,7 @@ message-xor [] [] h a b = refl
 message-xor [] (y ∷ ys) h a b = absurd (omega arith)
 message-xor (x ∷ xs) [] h a b = absurd (omega arith)
 message-xor (x ∷ xs) (y ∷ ys) h a b =
-    ap (λ l. l ++ flat_map (bits_of 8) (xor_bytes xs ys)) (bits-xor x y a.0 b.0)
+    ap (λ l. l ++ flat_map (bits_of 8) (xor_bytes xs ys)) (bits-xor 8 x y a.0 b.0)
     ∙ ap (λ l. add (bits_of 8 x) (bits_of 8 y) ++ l) (message-xor xs ys (omega arith) a.1 b.1)
     ∙ sym (add_parts (bits_of 8 x) (flat_map (bits_of 8) xs) (bits_of 8 y) (flat_map (bits_of 8) ys) (length-bits_of 8 x ∙ sym (length-bits_of 8 y)))
 
@@ -94,7 +94,7 @@ checksum-xor xs ys h a b =
     ∙ ap (bit_xor (checksum_of xs)) (sym (checksum-left ys))
 
 -- zeros in front count for nothing
-zero_bits : (n : ℕ) (bytes : List ℕ) → message_bits (replicate n 0 ++ bytes) ≡ zeros (8 * n) ++ message_bits bytes
+pub zero_bits : (n : ℕ) (bytes : List ℕ) → message_bits (replicate n 0 ++ bytes) ≡ zeros (8 * n) ++ message_bits bytes
 unfolding message_bits bits_of
 zero_bits zero bytes = refl
 zero_bits (suc n) bytes =

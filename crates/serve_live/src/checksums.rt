@@ -1,12 +1,10 @@
 //! The checksum of a page that gets another number.
-ghost use Rattle.std.specs.Prelude.{◌≡◌, ◌≤◌, ◌++◌, ℕ, List, replicate};
+ghost use Rattle.std.specs.Prelude.{◌≡◌, ◌≤◌, ◌^◌, ◌++◌, ℕ, List, replicate};
 ghost use Rattle.page_checksum.specs.Checksum.{checksum_of};
 ghost use Rattle.serve_live.specs.Renumbering.{checksum_change};
 
+use crate::zeros::{MOST, MOVED};
 use ogg_page::{SEQUENCE_END, checksum_on};
-
-/// How many zeros are added at once.
-const ZEROS: usize = 256;
 
 /// What the checksum of a page of this size changes by, if the page's number changes. No byte of the page is needed.
 pub fn checksum_change(old: u32, new: u32, size: u64) -> u32
@@ -19,18 +17,32 @@ pub fn checksum_change(old: u32, new: u32, size: u64) -> u32
     with_zeros(checksum_on(0, &differing), size - SEQUENCE_END as u64)
 }
 
-/// The checksum of some bytes and this many zeros after them, from the checksum of the bytes.
+/// The checksum of some bytes and this many zeros after them, from the checksum of the bytes. It takes a step for each
+/// power of two that the count has, and one for each 65,536.
 pub fn with_zeros(before: u32, count: u64) -> u32
     ensures { (front : List ℕ) → before ≡ checksum_of front → result ≡ checksum_of (front ++ replicate count 0) }
 {
-    let zeros = [0; ZEROS];
     let mut sum = before;
     let mut left = count;
     while left > 0 {
-        let some = left.min(ZEROS as u64);
-        let (part, _) = zeros.split_at(some as usize);
-        sum = checksum_on(sum, part);
-        left -= some;
+        let power = left.ilog2().min(MOST);
+        sum = moved(sum, power);
+        left -= 1 << power;
+    }
+    sum
+}
+
+/// The same of 2^power zeros: the checksum is linear, so each of its bits becomes what the table has.
+fn moved(before: u32, power: u32) -> u32
+    requires { power ≤ 16 }
+    ensures { (front : List ℕ) → before ≡ checksum_of front → result ≡ checksum_of (front ++ replicate (2 ^ power) 0) }
+{
+    let row = &MOVED[power as usize];
+    let mut sum = 0;
+    for bit in 0..32 {
+        if (before >> bit) % 2 == 1 {
+            sum ^= row[bit];
+        }
     }
     sum
 }

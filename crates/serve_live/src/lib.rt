@@ -23,6 +23,7 @@ mod laws;
 mod listener;
 mod pages;
 mod pieces;
+mod zeros;
 
 pub use boundaries::{AHEAD, Boundaries};
 pub use checksums::with_zeros;
