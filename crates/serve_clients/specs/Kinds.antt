@@ -26,7 +26,7 @@ same Listener Listener = true
 same Session Session = true
 same Source Source = true
 same Other Other = true
-same one other = false
+same first second = false
 
 -- there is a connection, and it is of this kind
 abbrev pub is_of : Kind → Option ClientState → Bool
