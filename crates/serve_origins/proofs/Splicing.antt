@@ -1,15 +1,14 @@
 -- What is written of a response that gets a field after its first line.
-use Rattle.std.proofs.Common.{◌≡◌, ℕ, zero, suc, ◌+◌, ◌-◌, ◌<◌, ◌≤◌, Bool, true, false, cond, nat_lt, ◌==◌, List, [], ◌∷◌, ◌++◌, Option, Some, None, length, get_or, take, drop, arith, refl, ap, sym, ◌∙◌, append_assoc, append-nil, take-add, length-drop, length-append, length-take}
+use Rattle.std.proofs.Common.{◌≡◌, ℕ, zero, suc, ◌+◌, ◌-◌, ◌<◌, ◌≤◌, Bool, true, false, cond, nat_lt, ◌==◌, List, [], ◌∷◌, ◌++◌, Some, None, length, get_or, take, drop, arith, refl, ap, sym, ◌∙◌, append_assoc, take-add, length-append, length-take}
 use Rattle.std.proofs.lemmas.Grind.{common_steps}
 use Rattle.std.proofs.lemmas.List.{take-append-le, take-append-drop}
 use Rattle.std.proofs.lemmas.Bool.{ltb-false}
-use Rattle.std.proofs.lemmas.List.Quantifiers.{position-Some}
 use Rattle.std.proofs.lemmas.List.Sums.{fails_before_first}
 use Rattle.std.proofs.Math.Seq.{take-append-add}
 use Rattle.std.specs.List.{position, position_or_len}
 use Rattle.serve_origins.specs.Added.{HasWritten, left_of, with_field}
 use Rattle.serve_origins.specs.declared.added.Added.{Added}
-use Rattle.serve_origins.specs.declared.added.Added.TheVariants.{Nothing, Part, Whole}
+use Rattle.serve_origins.specs.declared.added.Added.TheVariants.{Nothing, Part}
 
 abbrev pub is_feed : ℕ → Bool
 is_feed b = b == 10

@@ -1,5 +1,5 @@
 -- The request OPTIONS (RFC 9110, section 9.3.7), by which a browser asks first (Fetch, section 3.2.2).
-use Rattle.std.specs.Prelude.{◌≡◌, ◌≤◌, ◌⊎◌, ℕ, Bool, true, false, List, length, nat_eq, ◌||◌, codes}
+use Rattle.std.specs.Prelude.{◌≡◌, ◌≤◌, ◌⊎◌, ℕ, Bool, false, List, length, nat_eq, ◌||◌, codes}
 use Rattle.std.specs.List.{starts_with}
 use Rattle.httparse.specs.Grammar.{RequestHead, ReadsRequest}
 use Rattle.ogg_http.specs.Head.{IsHopeless, head_bytes, most_bytes, most_fields}

@@ -1,5 +1,5 @@
 //! A field that a response gets after its first line.
-ghost use Rattle.std.specs.Prelude.{◌≡◌, ◌≤◌, ◌==◌, ◌++◌, ℕ, List, Some, length, position, IfOk};
+ghost use Rattle.std.specs.Prelude.{◌≡◌, ◌≤◌, ◌<◌, ◌==◌, ◌++◌, ℕ, List, Some, length, position, IfOk, OnErr, vec_capacity};
 ghost use Rattle.serve_origins.specs.Added.{HasWritten, field_of, left_of, with_field};
 
 pub use std::alloc::AllocError as Memory;
@@ -54,15 +54,15 @@ fn past_field(field: &[u8], sent: usize, count: usize) -> (Added, usize)
     }
 }
 
-/// Three texts, one after the other.
-fn joined(alloc: Global, first: &[u8], then: &[u8], last: &[u8]) -> Result<Vec<u8>, Memory>
-    ensures { IfOk result (λ text. text.items ≡ first.now ++ (then.now ++ last.now)) }
+/// Makes the text these three, one after the other.
+fn join(text: &mut Vec<u8>, first: &[u8], then: &[u8], last: &[u8]) -> Result<(), Memory>
+    ensures ok { IfOk result (λ _. text.new.items ≡ first.now ++ (then.now ++ last.now)) }
+    ensures full { OnErr result (vec_capacity text.old < length (first.now ++ (then.now ++ last.now))) }
 {
-    let mut text = Vec::new(alloc);
+    text.clear();
     text.extend_from_slice(first)?;
     text.extend_from_slice(then)?;
-    text.extend_from_slice(last)?;
-    Ok(text)
+    text.extend_from_slice(last)
 }
 
 impl Allowed {
@@ -77,30 +77,33 @@ impl Allowed {
         Ok(Allowed { field })
     }
 
-    /// What is to be written in place of these bytes, which are the next of a response.
-    pub fn text(&self, alloc: Global, added: Added, bytes: &[u8]) -> Result<Vec<u8>, Memory>
-        ensures { IfOk result (λ text. text.items ≡ left_of added self.now bytes.now) }
+    /// Makes the text what is to be written in place of these bytes, which are the next of a response. `Memory`: the text had
+    /// no room for it, and got none.
+    pub fn put(&self, added: Added, bytes: &[u8], text: &mut Vec<u8>) -> Result<(), Memory>
+        ensures ok { IfOk result (λ _. text.new.items ≡ left_of added self.now bytes.now) }
+        ensures full { OnErr result (vec_capacity text.old < length (left_of added self.now bytes.now)) }
     {
         match added {
-            Added::Nothing => self.first_text(alloc, bytes),
+            Added::Nothing => self.put_first(bytes, text),
             Added::Part(sent) => {
                 let (_, left) = self.field.as_slice().split_at(sent.min(self.field.len()));
-                joined(alloc, left, b"", bytes)
+                join(text, left, b"", bytes)
             }
-            Added::Whole => joined(alloc, b"", b"", bytes),
+            Added::Whole => join(text, b"", b"", bytes),
         }
     }
 
     /// The same of the first bytes of a response.
-    fn first_text(&self, alloc: Global, bytes: &[u8]) -> Result<Vec<u8>, Memory>
-        ensures { IfOk result (λ text. text.items ≡ with_field self.now bytes.now) }
+    fn put_first(&self, bytes: &[u8], text: &mut Vec<u8>) -> Result<(), Memory>
+        ensures ok { IfOk result (λ _. text.new.items ≡ with_field self.now bytes.now) }
+        ensures full { OnErr result (vec_capacity text.old < length (with_field self.now bytes.now)) }
     {
         match line_end(bytes) {
             Some(end) => {
                 let (line, rest) = bytes.split_at(end + 1);
-                joined(alloc, line, self.field.as_slice(), rest)
+                join(text, line, self.field.as_slice(), rest)
             }
-            None => joined(alloc, b"", b"", bytes),
+            None => join(text, b"", b"", bytes),
         }
     }
 

@@ -121,7 +121,7 @@ impl<'a, D: Disk + Drop, R: Recorded<D> + Drop> Running<'a, D, R> {
             return;
         }
         let allowed = self.allowed.as_ref();
-        let put = self.sockets.put(self.rt, allowed, seat, count);
+        let put = self.sockets.put(allowed, seat, count);
         let bytes = front_of(self.sockets.buffer.as_slice(), count);
         match put {
             Ok(written) => {

@@ -207,7 +207,7 @@ impl<D: Disk + Drop, R: Recorded<D> + Drop> Running<'_, D, R> {
             return;
         }
         let allowed = self.allowed.as_ref();
-        let put = self.sockets.put(self.rt, allowed, seat, count);
+        let put = self.sockets.put(allowed, seat, count);
         let Some(station) = self.stations.at(seat) else {
             return;
         };

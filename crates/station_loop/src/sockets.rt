@@ -39,6 +39,8 @@ pub struct Sockets {
     /// Whether standard input may have bytes, or its end.
     pub has_input: bool,
     pub buffer: Vec<u8>,
+    // what is written in place of these bytes, with what is added
+    text: Vec<u8>,
 }
 
 impl Sockets {
@@ -54,6 +56,7 @@ impl Sockets {
             left: false,
             has_input: !rt.stdin().is_terminal(),
             buffer: vec![in rt.alloc(); 0; PIECE]?,
+            text: Vec::new(rt.alloc()),
         };
         let registry = sockets.poll.registry();
         registry.register(&mut sockets.listener, Token(LISTENER), Interest::READABLE)?;
@@ -174,14 +177,13 @@ impl Sockets {
     /// were written.
     pub fn put(
         &mut self,
-        rt: &HostRuntime,
         allowed: Option<&Allowed>,
         seat: Seat,
         count: usize,
     ) -> io::Result<usize> {
         let (bytes, _) = self.buffer.split_at(count.min(self.buffer.len()));
         match self.connections.get_mut(&seat.token()) {
-            Some(connection) => connection.put(rt, allowed, bytes),
+            Some(connection) => connection.put(allowed, bytes, &mut self.text),
             None => Err(ErrorKind::NotConnected.into()),
         }
     }
@@ -207,13 +209,13 @@ impl Connection {
     /// Writes the next bytes of the response once, and says how many of them were written.
     fn put(
         &mut self,
-        rt: &HostRuntime,
         allowed: Option<&Allowed>,
         bytes: &[u8],
+        text: &mut Vec<u8>,
     ) -> io::Result<usize> {
         match allowed {
             Some(allowed) if self.added != Added::Whole => {
-                let text = allowed.text(rt.alloc(), self.added, bytes)?;
+                allowed.put(self.added, bytes, text)?;
                 let written = (&self.stream).write(text.as_slice())?;
                 let (added, own) = allowed.wrote(self.added, bytes, written);
                 self.added = added;

@@ -1,4 +1,4 @@
-use Rattle.std.proofs.Common.{◌≡◌, ◌≤◌, length, arith, ap, sym, ◌∙◌}
+use Rattle.std.proofs.Common.{◌≤◌, length, arith, ap, sym, ◌∙◌}
 use Rattle.serve_origins.proofs.Splicing.{in_line, no_feed, without_line}
 use Rattle.serve_origins.proofs.added.Allowed.wrote_first.Goals as goal
 
