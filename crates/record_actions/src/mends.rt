@@ -1,5 +1,6 @@
 //! What is mended, told line by line.
-ghost use Rattle.std.specs.Prelude.{⊤};
+ghost use Rattle.std.specs.Prelude.{⊤, ◌≡◌, ◌↔◌, ◌<◌, ◌+◌, ◌++◌, ◌∷◌, [], ◌⊎◌, length, true, false, vec_capacity};
+ghost use Rattle.std.specs.List.{Contains};
 
 use fault_lines::write_mend;
 use import_feed::{Mend, Mends};
@@ -19,7 +20,9 @@ pub struct MendLines<W> {
 
 impl<W: Write> MendLines<W> {
     /// No stream was told yet. It takes no memory.
-    pub fn new(alloc: Global, out: W) -> MendLines<W> {
+    pub fn new(alloc: Global, out: W) -> MendLines<W>
+        ensures { result.strangers.items ≡ [] }
+    {
         MendLines {
             out,
             strangers: Vec::new(alloc),
@@ -27,7 +30,13 @@ impl<W: Write> MendLines<W> {
     }
 
     /// Whether the stream with this serial wasn't told yet. Where there is no room to remember it, it is told again.
-    fn is_new(&mut self, serial: u32) -> bool {
+    fn is_new(&mut self, serial: u32) -> bool
+        ensures known { (result ≡ false) ↔ Contains self.old.strangers.items serial }
+        ensures same { result ≡ false → self.new ≡ self.old }
+        ensures noted { result ≡ true → length self.old.strangers.items < 1024
+            → (self.new.strangers.items ≡ self.old.strangers.items ++ (serial ∷ []))
+            ⊎ (vec_capacity self.old.strangers < length self.old.strangers.items + 1) }
+    {
         if self.strangers.as_slice().contains(&serial) {
             return false;
         }

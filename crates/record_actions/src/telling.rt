@@ -1,7 +1,7 @@
 //! What is told of a recording: mends and refusals as they come, how far it has come at a terminal, and what it came
 //! to.
 ghost use Rattle.std.specs.Prelude.{◌≡◌, ◌≢◌, ◌↔◌, ◌&&◌, ◌||◌, ◌<◌, ℕ, nat_lt, IsTrue, None, Some, true, false};
-ghost use Rattle.record_actions.specs.Telling.{HasCome, fault_of, totals_with};
+ghost use Rattle.record_actions.specs.Telling.{HasCome, fault_of, is_told, links_after, mended_by, mended_in, more, nothing_to, packets_after, refuses_in, totals_with};
 ghost use Rattle.ogg_command.specs.declared.refusal.Refusal.{Refusal as RefusalOf};
 
 use crate::mends::MendLines;
@@ -46,7 +46,12 @@ pub struct Told<'a> {
 
 impl<'a> Told<'a> {
     /// Nothing has come, and the file's pages have `end` bytes. In a strict run the first mend or refusal is enough.
-    pub fn new(rt: &'a HostRuntime, strict: bool, end: u64) -> Told<'a> {
+    pub fn new(rt: &'a HostRuntime, strict: bool, end: u64) -> Told<'a>
+        ensures strict { result.strict ≡ strict }
+        ensures nothing { (result.totals ≡ nothing_to end) × (result.links ≡ 0) × (result.packets ≡ 0) }
+        ensures unseen { (result.is_refused ≡ false) × (result.has_pages ≡ false) × (result.reopened ≡ None) }
+        ensures unshown { (result.shows_other ≡ false) × (result.shown ≡ None) }
+    {
         Told {
             rt,
             strict,
@@ -70,7 +75,8 @@ impl<'a> Told<'a> {
 
     /// Something was mended.
     pub fn mended(&mut self, mend: Option<Mend>)
-        ensures page { self.new.has_pages ≡ self.old.has_pages }
+        ensures { self.new ≡ record self.old
+            { totals = mended_by mend self.old.totals; lines = self.new.lines; shown = self.new.shown } }
     {
         if let Some(mend) = mend {
             self.totals.mends = self.totals.mends.saturating_add(1);
@@ -82,6 +88,19 @@ impl<'a> Told<'a> {
     /// A step of the stream was taken.
     pub fn stepped(&mut self, step: &Step)
         ensures page { HasCome step.now self.old.has_pages self.new.has_pages }
+        ensures mends { self.new.totals ≡ mended_in step.now self.old.totals }
+        ensures waits { (self.new.links ≡ links_after step.now self.old.links)
+            × (self.new.packets ≡ packets_after step.now self.old.packets) }
+        ensures noted { self.new.is_refused ≡ (self.old.is_refused || refuses_in step.now) }
+        ensures rest { self.new ≡ record self.old {
+          totals = self.new.totals;
+          links = self.new.links;
+          packets = self.new.packets;
+          is_refused = self.new.is_refused;
+          has_pages = self.new.has_pages;
+          lines = self.new.lines;
+          shown = self.new.shown;
+        } }
     {
         match step {
             // Whether it was kept is seen by the file.
@@ -101,7 +120,9 @@ impl<'a> Told<'a> {
 
     /// After a step the stream was read up to this offset. A mend is told only with the page after it, so if many bytes
     /// without a page come, as of a stream that is no Ogg at all, that is told while they come.
-    pub fn searched(&mut self, step: &Step, offset: u64) {
+    pub fn searched(&mut self, step: &Step, offset: u64)
+        ensures { self.new ≡ record self.old { search = self.new.search; shown = self.new.shown } }
+    {
         match step {
             Step::Page { .. } => self.search = Search::at(offset),
             Step::PassedOver => self.passed_over(offset),
@@ -111,7 +132,9 @@ impl<'a> Told<'a> {
     }
 
     /// Bytes up to this offset are of no page.
-    fn passed_over(&mut self, offset: u64) {
+    fn passed_over(&mut self, offset: u64)
+        ensures { self.new ≡ record self.old { search = self.new.search; shown = self.new.shown } }
+    {
         if let Some(bytes) = self.search.passed(offset) {
             let line = self.search.line(bytes);
             self.tell(line.as_slice());
@@ -121,6 +144,7 @@ impl<'a> Told<'a> {
     /// A source was given up: what it sent later is lost.
     pub fn given_up(&mut self, fault: RecordFault)
         ensures noted { self.new.is_refused ≡ true }
+        ensures rest { self.new ≡ record self.old { is_refused = true; shown = None } }
     {
         self.is_refused = true;
         self.erase();
@@ -130,6 +154,7 @@ impl<'a> Told<'a> {
     /// A source was turned away, which this line tells: nothing of it is recorded.
     pub fn turned_away(&mut self, line: &[u8])
         ensures noted { self.new.is_refused ≡ true }
+        ensures rest { self.new ≡ record self.old { is_refused = true; shown = None } }
     {
         self.tell(line);
         self.is_refused = true;
@@ -137,7 +162,14 @@ impl<'a> Told<'a> {
 
     /// A page that begins at this offset was taken.
     pub fn taken(&mut self, offset: u64, taken: &Taken)
-        ensures page { self.new.has_pages ≡ self.old.has_pages }
+        ensures { self.new ≡ record self.old {
+          totals = mended_by taken.now.mend self.old.totals;
+          links = more self.old.links taken.now.answered.links;
+          packets = more self.old.packets taken.now.answered.packets;
+          is_refused = self.old.is_refused || is_told taken.now.answered.refused;
+          lines = self.new.lines;
+          shown = self.new.shown;
+        } }
     {
         self.mended(taken.mend);
         self.answered(offset, &taken.answered);
@@ -145,7 +177,13 @@ impl<'a> Told<'a> {
 
     /// Commands were run when the input was read up to this offset.
     pub fn answered(&mut self, offset: u64, answered: &Answered)
-        ensures page { self.new.has_pages ≡ self.old.has_pages }
+        ensures { self.new ≡ record self.old {
+          links = more self.old.links answered.now.links;
+          packets = more self.old.packets answered.now.packets;
+          is_refused = self.old.is_refused || is_told answered.now.refused;
+          lines = self.new.lines;
+          shown = self.new.shown;
+        } }
     {
         if answered.links > 0 {
             self.lines.link_begun();
@@ -160,7 +198,8 @@ impl<'a> Told<'a> {
     pub fn unended(&mut self, offset: u64, refused: Option<Refusal>)
         ensures noted { (refusal : RefusalOf) → refused ≡ Some refusal → refusal ≢ Refusal.Disk → refusal ≢ Refusal.Failed
             → self.new.is_refused ≡ true }
-        ensures page { self.new.has_pages ≡ self.old.has_pages }
+        ensures rest { self.new ≡ record self.old
+            { is_refused = self.old.is_refused || is_told refused; shown = self.new.shown } }
     {
         match refused {
             None | Some(Refusal::Disk | Refusal::Failed) => {}
@@ -184,8 +223,12 @@ impl<'a> Told<'a> {
         ensures waits { 0 < held → self.new ≡ self.old }
         ensures failed { failed ≡ true → self.new ≡ self.old }
         ensures kept { held ≡ 0 → failed ≡ false
-            → (self.new.totals ≡ totals_with self.old.totals self.old.links self.old.packets end)
-            × (self.new.links ≡ 0) × (self.new.packets ≡ 0) }
+            → self.new ≡ record self.old {
+              totals = totals_with self.old.totals self.old.links self.old.packets end;
+              links = 0;
+              packets = 0;
+              shown = self.new.shown;
+            } }
     {
         if held == 0 && !failed {
             self.totals.links = self.totals.links.saturating_add(self.links);
@@ -201,7 +244,8 @@ impl<'a> Told<'a> {
     /// pages have `end` bytes, is to be opened again: not if nothing was kept since that was done before.
     pub fn lost(&mut self, offset: u64, end: u64) -> bool
         ensures again { IsTrue result ↔ (self.old.reopened ≢ Some end) }
-        ensures noted { (self.new.reopened ≡ Some end) × (self.new.is_refused ≡ true) }
+        ensures noted { self.new ≡ record self.old
+            { links = 0; packets = 0; is_refused = true; reopened = Some end; shown = None } }
     {
         self.refused(Refusal::Disk, offset);
         self.links = 0;
@@ -234,20 +278,26 @@ impl<'a> Told<'a> {
     }
 
     /// Tells what the recording came to.
-    pub fn close(&mut self) {
+    pub fn close(&mut self)
+        ensures { self.new ≡ record self.old { shown = None } }
+    {
         self.erase();
         let mut errors = self.rt.stderr();
         let _ = write_whole(&mut errors, archived_line(self.totals).as_slice());
     }
 
     /// Tells these lines.
-    pub fn tell(&mut self, lines: &[u8]) {
+    pub fn tell(&mut self, lines: &[u8])
+        ensures { self.new ≡ record self.old { shown = None } }
+    {
         self.erase();
         let _ = write_whole(&mut self.rt.stderr(), lines);
     }
 
     /// Shows this line at a terminal from now on, in place of how far the recording has come.
-    pub fn show_other(&mut self, line: &[u8]) {
+    pub fn show_other(&mut self, line: &[u8])
+        ensures { self.new ≡ record self.old { shows_other = true; shown = self.new.shown } }
+    {
         self.shows_other = true;
         let mut errors = self.rt.stderr();
         if !errors.is_terminal() {
