@@ -142,13 +142,22 @@ by_whole_row power word le small =
     by_row_is (8 * 2 ^ power) (row_at power) 32 word (is_row power le) (omega arith) ∙ ap (moved_by (8 * 2 ^ power)) (mod-eq_of_lt small)
 
 -- ---- a step
-pub with_bit : (bit word : ℕ) (row : List ℕ) → word / 2 ^ bit % 2 ≡ 1 → by_row (bit + 1) row word ≡ bit_xor (by_row bit row word) (get_or row bit 0)
+with_bit : (bit word : ℕ) (row : List ℕ) → word / 2 ^ bit % 2 ≡ 1 → by_row (bit + 1) row word ≡ bit_xor (by_row bit row word) (get_or row bit 0)
 with_bit bit word row e =
     ap (λ n. by_row n row word) (let f : bit + 1 ≡ suc bit = omega arith in f)
     ∙ ap (λ d. if nat_eq d 1 then bit_xor (by_row bit row word) (get_or row bit 0) else by_row bit row word) e
 
-pub without_bit : (bit word : ℕ) (row : List ℕ) → (word / 2 ^ bit % 2 ≡ 1 → ⊥) → by_row (bit + 1) row word ≡ by_row bit row word
+without_bit : (bit word : ℕ) (row : List ℕ) → (word / 2 ^ bit % 2 ≡ 1 → ⊥) → by_row (bit + 1) row word ≡ by_row bit row word
 without_bit bit word row clear =
     ap (λ n. by_row n row word) (let f : bit + 1 ≡ suc bit = omega arith in f)
     ∙ ap (λ d. if nat_eq d 1 then bit_xor (by_row bit row word) (get_or row bit 0) else by_row bit row word)
     (let e : word / 2 ^ bit % 2 ≡ 0 = omega (arith, clear) in e)
+
+-- the entry is added if the bit is 1
+pub next_bit : (bit word digit entry : ℕ) (row : List ℕ) → word / 2 ^ bit % 2 ≡ digit → (digit ≡ 1 → entry ≡ get_or row bit 0) → (digit ≡ 0 → entry ≡ 0)
+    → bit_xor (by_row bit row word) entry ≡ by_row (bit + 1) row word
+next_bit bit word zero entry row e one none =
+    ap (bit_xor (by_row bit row word)) (none refl) ∙ xor_zero_r (by_row bit row word) ∙ sym (without_bit bit word row (λ is. omega (arith, e, is)))
+next_bit bit word (suc zero) entry row e one none =
+    ap (bit_xor (by_row bit row word)) (one refl) ∙ sym (with_bit bit word row e)
+next_bit bit word (suc (suc n)) entry row e one none = absurd (omega arith)

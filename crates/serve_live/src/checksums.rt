@@ -1,5 +1,5 @@
 //! The checksum of a page that gets another number.
-ghost use Rattle.std.specs.Prelude.{◌≡◌, ◌≤◌, ◌^◌, ◌++◌, ℕ, List, replicate};
+ghost use Rattle.std.specs.Prelude.{◌≡◌, ◌≤◌, ◌<◌, ◌^◌, ◌++◌, ℕ, List, replicate};
 ghost use Rattle.page_checksum.specs.Checksum.{checksum_of};
 ghost use Rattle.serve_live.specs.Renumbering.{checksum_change};
 
@@ -40,9 +40,16 @@ fn moved(before: u32, power: u32) -> u32
     let row = &MOVED[power as usize];
     let mut sum = 0;
     for bit in 0..32 {
-        if (before >> bit) % 2 == 1 {
-            sum ^= row[bit];
-        }
+        sum ^= chosen(row[bit], (before >> bit) % 2);
     }
     sum
+}
+
+/// The entry if the bit is 1, or else 0. The entry is read in any case, so that no branch is foretold wrongly.
+fn chosen(entry: u32, bit: u32) -> u32
+    requires { bit < 2 }
+    ensures one { bit ≡ 1 → result ≡ entry }
+    ensures none { bit ≡ 0 → result ≡ 0 }
+{
+    if bit == 1 { entry } else { 0 }
 }

@@ -1,23 +1,17 @@
-use Rattle.std.proofs.Common.{◌≡◌, ℕ, ◌*◌, ◌^◌, List, get_or, refl, sym, ◌∙◌, ap, arith}
+use Rattle.std.proofs.Common.{◌≡◌, ℕ, ◌*◌, ◌/◌, ◌%◌, ◌^◌, refl, sym, ◌∙◌, ap, arith}
 use Rattle.std.specs.Prelude.{bit_xor}
 use Rattle.serve_live.proofs.Moving.{moved_by, checksum-behind}
-use Rattle.serve_live.proofs.Rows.{by_row, row_at, by_whole_row, with_bit, without_bit}
+use Rattle.serve_live.proofs.Rows.{by_row, row_at, by_whole_row, next_bit}
 use Rattle.serve_live.proofs.checksums.moved.Goals as goal
-use Rattle.serve_live.proofs.checksums.moved.Goals.{then-before-bit-eq1, else-before-bit-eq1}
 
 pub loop-bit-init : goal.loop-bit-init
 loop-bit-init c = refl
 
 pub loop-bit-preserved : goal.loop-bit-preserved
 loop-bit-preserved c =
-    let row : List ℕ = row_at c.args.power in
     let bit : ℕ = c.loop-bit.bit in
-    elim c.if-before-bit-eq1.branch [
-      | then-before-bit-eq1 w ↦
-          w.sum-is ∙ ap (λ n. bit_xor n (get_or row bit 0)) c.loop-bit.invariant ∙ sym (with_bit bit c.args.before row w.if-before-bit-eq1.true)
-      | else-before-bit-eq1 w ↦
-          w.sum-is ∙ c.loop-bit.invariant ∙ sym (without_bit bit c.args.before row w.if-before-bit-eq1.false)
-    ]
+    ap (λ n. bit_xor n c.chosen-sum.result) c.loop-bit.invariant
+    ∙ next_bit bit c.args.before (c.args.before / 2 ^ bit % 2) c.chosen-sum.result (row_at c.args.power) refl c.chosen-sum.ensures.one c.chosen-sum.ensures.none
 
 pub returns : goal.returns
 returns c front is =
