@@ -394,8 +394,8 @@ def follows(program, work):
                 if at % 150 == 20:
                     listeners.append(threading.Thread(target=listen, args=(rng.choice([0, 1, 1, 3, 5, 9]),)))
                     listeners[-1].start()
-    # The last pages are heard a second after they are committed.
-    time.sleep(2.5)
+    # Who hears files has a turn once a second, looked for once a second: the last pages come within two.
+    time.sleep(5)
     status = Answer(station.ask(get(b"/status"))).body
     count = b'kudzuturret_connections{kind="listener"} %d\n' % len(listeners)
     told.check("they are counted", count in status, [it for it in status.splitlines() if b"_connections{" in it])
