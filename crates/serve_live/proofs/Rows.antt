@@ -69,7 +69,7 @@ are_rows : ℕ → Bool
 are_rows zero = are_by (λ bit. moved_by 8 (2 ^ bit)) 0 (row_at 0)
 are_rows (suc power) = are_by (λ bit. by_row 32 (row_at power) (get_or (row_at power) bit 0)) 0 (row_at (suc power)) && are_rows power
 
-computed : are_rows 16 ≡ true
+computed : are_rows 15 ≡ true
 unfolding are_rows are_by number_of remainder bits_of add divisor
 computed = refl
 
@@ -88,7 +88,7 @@ are_long : ℕ → Bool
 are_long zero = nat_eq (length (row_at 0)) 32
 are_long (suc power) = nat_eq (length (row_at (suc power))) 32 && are_long power
 
-long_computed : are_long 16 ≡ true
+long_computed : are_long 15 ≡ true
 unfolding are_long
 long_computed = refl
 
@@ -132,12 +132,12 @@ row_rule (suc power) h l bit small =
     ∙ sym (moved-more count count (2 ^ bit))
     ∙ ap (λ n. moved_by n (2 ^ bit)) (let e : count + count ≡ 8 * (2 * 2 ^ power) = omega arith in e ∙ ap (λ n. 8 * n) (let g : 2 * 2 ^ power ≡ 2 ^ suc power = sym (pow-suc 2 power ∙ (let k : 2 ^ power * 2 ≡ 2 * 2 ^ power = omega arith in k)) in g))
 
-pub is_row : (power : ℕ) → power ≤ 16 → IsRow (8 * 2 ^ power) (row_at power)
+pub is_row : (power : ℕ) → power ≤ 15 → IsRow (8 * 2 ^ power) (row_at power)
 is_row power le =
-    row_rule power (rows_below (16 - power) 16 power (omega (arith, le)) computed) (long_below (16 - power) 16 power (omega (arith, le)) long_computed)
+    row_rule power (rows_below (15 - power) 15 power (omega (arith, le)) computed) (long_below (15 - power) 15 power (omega (arith, le)) long_computed)
 
 -- a word becomes what its bits become
-pub by_whole_row : (power word : ℕ) → power ≤ 16 → word < 2 ^ 32 → by_row 32 (row_at power) word ≡ moved_by (8 * 2 ^ power) word
+pub by_whole_row : (power word : ℕ) → power ≤ 15 → word < 2 ^ 32 → by_row 32 (row_at power) word ≡ moved_by (8 * 2 ^ power) word
 by_whole_row power word le small =
     by_row_is (8 * 2 ^ power) (row_at power) 32 word (is_row power le) (omega arith) ∙ ap (moved_by (8 * 2 ^ power)) (mod-eq_of_lt small)
 

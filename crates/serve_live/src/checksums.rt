@@ -18,7 +18,7 @@ pub fn checksum_change(old: u32, new: u32, size: u64) -> u32
 }
 
 /// The checksum of some bytes and this many zeros after them, from the checksum of the bytes. It takes a step for each
-/// power of two that the count has, and one for each 65,536.
+/// power of two that the count has, and one for each 32,768.
 pub fn with_zeros(before: u32, count: u64) -> u32
     ensures { (front : List ℕ) → before ≡ checksum_of front → result ≡ checksum_of (front ++ replicate count 0) }
 {
@@ -34,7 +34,7 @@ pub fn with_zeros(before: u32, count: u64) -> u32
 
 /// The same of 2^power zeros: the checksum is linear, so each of its bits becomes what the table has.
 fn moved(before: u32, power: u32) -> u32
-    requires { power ≤ 16 }
+    requires { power ≤ 15 }
     ensures { (front : List ℕ) → before ≡ checksum_of front → result ≡ checksum_of (front ++ replicate (2 ^ power) 0) }
 {
     let row = &MOVED[power as usize];

@@ -1,7 +1,7 @@
 //! What a checksum becomes by zeros behind its bytes.
 
-/// For each k from 0 to 16, what each bit of a checksum, the lowest first, becomes by 2^k zeros.
-pub const MOVED: [[u32; 32]; 17] = [
+/// For each k from 0 to 15, what each bit of a checksum, the lowest first, becomes by 2^k zeros.
+pub const MOVED: [[u32; 32]; 16] = [
     [
         0x00000100, 0x00000200, 0x00000400, 0x00000800, 0x00001000, 0x00002000, 0x00004000,
         0x00008000, 0x00010000, 0x00020000, 0x00040000, 0x00080000, 0x00100000, 0x00200000,
@@ -114,14 +114,7 @@ pub const MOVED: [[u32; 32]; 17] = [
         0xADCDF5D9, 0x5F5AF605, 0xBEB5EC0A, 0x79AAC5A3, 0xF3558B46, 0xE26A0B3B, 0xC0150BC1,
         0x84EB0A35, 0x0D1709DD, 0x1A2E13BA, 0x345C2774,
     ],
-    [
-        0x96837F8C, 0x29C7E2AF, 0x538FC55E, 0xA71F8ABC, 0x4AFE08CF, 0x95FC119E, 0x2F393E8B,
-        0x5E727D16, 0xBCE4FA2C, 0x7D08E9EF, 0xFA11D3DE, 0xF0E2BA0B, 0xE50469A1, 0xCEC9CEF5,
-        0x9952805D, 0x36641D0D, 0x6CC83A1A, 0xD9907434, 0xB7E1F5DF, 0x6B02F609, 0xD605EC12,
-        0xA8CAC593, 0x55549691, 0xAAA92D22, 0x519347F3, 0xA3268FE6, 0x428C027B, 0x851804F6,
-        0x0EF1145B, 0x1DE228B6, 0x3BC4516C, 0x7788A2D8,
-    ],
 ];
 
 /// The greatest of these k.
-pub const MOST: u32 = 16;
+pub const MOST: u32 = 15;
