@@ -1,5 +1,5 @@
 //! What is mended, told line by line.
-ghost use Rattle.std.specs.Prelude.{⊤, ◌≡◌, ◌↔◌, ◌<◌, ◌+◌, ◌++◌, ◌∷◌, [], ◌⊎◌, length, true, false, vec_capacity};
+ghost use Rattle.std.specs.Prelude.{⊤, ◌≡◌, ◌↔◌, ◌<◌, ◌≤◌, ◌+◌, ◌++◌, ◌∷◌, [], ◌⊎◌, length, true, false, vec_capacity};
 ghost use Rattle.std.specs.List.{Contains};
 
 use fault_lines::write_mend;
@@ -33,9 +33,12 @@ impl<W: Write> MendLines<W> {
     fn is_new(&mut self, serial: u32) -> bool
         ensures known { (result ≡ false) ↔ Contains self.old.strangers.items serial }
         ensures same { result ≡ false → self.new ≡ self.old }
-        ensures noted { result ≡ true → length self.old.strangers.items < 1024
+        ensures noted { result ≡ true
             → (self.new.strangers.items ≡ self.old.strangers.items ++ (serial ∷ []))
-            ⊎ (vec_capacity self.old.strangers < length self.old.strangers.items + 1) }
+            ⊎ ((self.new.strangers.items ≡ self.old.strangers.items)
+            × ((1024 ≤ length self.old.strangers.items)
+            ⊎ (vec_capacity self.old.strangers < length self.old.strangers.items + 1))) }
+        ensures few { length self.old.strangers.items ≤ 1024 → length self.new.strangers.items ≤ 1024 }
     {
         if self.strangers.as_slice().contains(&serial) {
             return false;
