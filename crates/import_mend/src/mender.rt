@@ -69,6 +69,10 @@ impl Mender {
         ensures full { IfOk result (λ mend. (lost : ℕ) → lost ≡ lost_in self.old.losses gatherer.old.chain.streams page.now.serial
             → way_of gatherer.old.chain lost page.now ≡ WayOf.Restart → mend ≡ Some (MendOf.Full offset page.now.serial)
             → LacksRoomFor page.now gatherer.new.chain) }
+        // If there was room to end its open streams they have ended, and there is no place for the page.
+        ensures room { HasRoom gatherer.old.chain → IfOk result (λ mend. (lost : ℕ) → lost ≡ lost_in self.old.losses gatherer.old.chain.streams page.now.serial
+            → way_of gatherer.old.chain lost page.now ≡ WayOf.Restart → mend ≡ Some (MendOf.Full offset page.now.serial)
+            → (is_open gatherer.new.chain ≡ false) × LacksPlace page.now gatherer.new.chain) }
         ensures cause { OnErr result (LacksMemory gatherer.new (vec_capacity self.old.room)) }
         ensures noted { OnOk result (gatherer.new.refused ≡ gatherer.old.refused) }
     {
@@ -145,6 +149,8 @@ impl Mender {
         requires { is_first page.now ≡ true }
         ensures restarts { IfOk result (λ mend. Restarts offset page.now gatherer.new mend) }
         ensures full { IfOk result (λ mend. mend ≡ Some (MendOf.Full offset page.now.serial) → LacksRoomFor page.now gatherer.new.chain) }
+        ensures room { HasRoom gatherer.old.chain → IfOk result (λ mend. mend ≡ Some (MendOf.Full offset page.now.serial)
+            → (is_open gatherer.new.chain ≡ false) × LacksPlace page.now gatherer.new.chain) }
         ensures gives { IfOk result (λ mend. (more : List CommandOf) × (commands.new.items ≡ commands.old.items ++ more)
             × GathersRestart offset page.now (mending self.old.losses gatherer.old) (mending self.new.losses gatherer.new) mend more) }
         ensures cause { OnErr result (LacksMemory gatherer.new (vec_capacity self.old.room)) }
