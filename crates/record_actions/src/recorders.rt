@@ -1,5 +1,5 @@
 //! Files that commands are recorded into: they are opened, and sealed.
-ghost use Rattle.std.specs.Prelude.{◌≡◌, ◌↔◌, ◌⊎◌, ◌<◌, IfOk, IfErr, IfSome, IsTrue, OnErr, Ok, Err, None, Some, true, false, codes, drop};
+ghost use Rattle.std.specs.Prelude.{◌≡◌, ◌↔◌, ◌⊎◌, ◌<◌, IfOk, IfErr, IsTrue, OnErr, Ok, Err, None, Some, true, false, codes, drop};
 ghost use Rattle.disk_model.specs.Fault.{HasCause};
 ghost use Rattle.disk_model.specs.Image.{IsSettled};
 ghost use Rattle.file_recorder.specs.Recorder.{committed};
@@ -186,6 +186,8 @@ pub fn seal_if<D: Disk + Drop>(recorder: Recorder<D>, seal: bool) -> Result<D, F
         → IsSettled (D.state disk) × ((D.state disk).contents ≡ committed D.state recorder)) }
     ensures failed { seal ≡ true → recorder.file.failed ≡ true → result ≡ Err Fault.Failed }
     ensures unasked { seal ≡ false → result ≡ Ok recorder.file.disk }
+    ensures waits { seal ≡ true → recorder.file.failed ≡ false → 0 < recorder.held → result ≡ Err Fault.Seal }
+    ensures only { recorder.file.failed ≡ false → OnErr result (result ≡ Err Fault.Seal) }
 {
     if seal {
         seal_file(recorder)
@@ -203,8 +205,12 @@ pub fn seal_after<D: Disk + Drop>(
 ) -> (Result<(), Fault>, Option<D>)
     ensures left { IfErr met (λ fault. result ≡ (Err fault, Some recorder.file.disk)) }
     ensures unasked { seal ≡ false → result ≡ (met, Some recorder.file.disk) }
+    ensures waits { met ≡ Ok tt → seal ≡ true → recorder.file.failed ≡ false → 0 < recorder.held
+        → result ≡ (Err Fault.Seal, None) }
+    ensures only { met ≡ Ok tt → recorder.file.failed ≡ false → OnErr result.0 (result ≡ (Err Fault.Seal, None)) }
     ensures failed { met ≡ Ok tt → seal ≡ true → recorder.file.failed ≡ true → result ≡ (Err Fault.Failed, None) }
-    ensures asked { met ≡ Ok tt → seal ≡ true → (result.0 ≡ Ok tt) → IfSome result.1 (λ disk. D.is_honest recorder.file.disk
+    ensures asked { met ≡ Ok tt → seal ≡ true → result.0 ≡ Ok tt → (disk : D) × (result.1 ≡ Some disk)
+        × (D.is_honest recorder.file.disk
         → IsSettled (D.state disk) × ((D.state disk).contents ≡ committed D.state recorder)) }
 {
     if met.is_err() {
