@@ -394,7 +394,7 @@ def follows(program, work):
                 if at % 150 == 20:
                     listeners.append(threading.Thread(target=listen, args=(rng.choice([0, 1, 1, 3, 5, 9]),)))
                     listeners[-1].start()
-    # Who hears files has a turn once a second, looked for once a second: the last pages come within two.
+    # Who hears files has a turn once a second, so the last pages come within one; a loaded machine is given more.
     time.sleep(5)
     status = Answer(station.ask(get(b"/status"))).body
     count = b'kudzuturret_connections{kind="listener"} %d\n' % len(listeners)

@@ -10,7 +10,7 @@ use Rattle.serve_sources.specs.declared.body.Body.{Body}
 use Rattle.serve_sources.specs.declared.outcome.Outcome.TheVariants.{Lost}
 use Rattle.station_sources.specs.Taking.{is_foreign}
 use Rattle.station_sources.specs.declared.air.Feeder.{Feeder}
-use Rattle.station_sources.specs.Air.{HasNoPage, foreign_answer, outcome_of, parting_answer, parting_in, wants_answer}
+use Rattle.station_sources.specs.Air.{HasNoPage, foreign_answer, parting_answer, parting_in, wants_answer}
 use Rattle.station.specs.Parting.{HasParted}
 use Rattle.station_sources.specs.declared.air.OnAir.{OnAir}
 use Rattle.station.specs.declared.stepping.Done.{Done}

@@ -11,3 +11,4 @@ mod Unread
 mod Waited
 mod Spared
 mod Counted
+mod Kept

@@ -86,7 +86,7 @@ parted None old new is = (ap (λ (one : ClientState). has_offered one.stage) is,
 parted (Some outcome) old new (inl is) = (ap (λ (one : ClientState). has_offered one.stage) is, ap (λ (one : ClientState). one.session) is)
 parted (Some outcome) old new (inr is) = (ap (λ (one : ClientState). has_offered one.stage) is, ap (λ (one : ClientState). one.session) is)
 
-waiting : (stage : Stage) → is_waiting stage ≡ true → is_source stage ≡ true
+pub waiting : (stage : Stage) → is_waiting stage ≡ true → is_source stage ≡ true
 waiting Waiting e = refl
 waiting Offering e = refl
 waiting Feeding e = refl

@@ -1,5 +1,5 @@
 -- What becomes of a connection in a spare place whose bytes have come.
-use Rattle.std.proofs.Common.{◌≡◌, ℕ, Bool, Option, Some, None, List, subst, inl, inr}
+use Rattle.std.proofs.Common.{◌≡◌, ℕ, Bool, Option, None, List, subst, inl, inr}
 use Rattle.serve_clients.specs.Client.{ClientState}
 use Rattle.serve_sources.specs.declared.answers.TheConstants.{FULL}
 use Rattle.serve_sources.specs.declared.asking.Asks.TheVariants as Asks

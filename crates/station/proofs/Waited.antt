@@ -5,7 +5,6 @@ use Rattle.serve_clients.specs.Client.{ClientState, ended_if, given as given_to,
 use Rattle.serve_clients.specs.declared.client.Stage.{Stage}
 use Rattle.serve_clients.specs.declared.client.Stage.TheVariants.{Sending, Hearing}
 use Rattle.serve_hub.specs.Parts.{HubParts}
-use Rattle.serve_machine.specs.Hub.{HubState}
 use Rattle.station_hub.specs.Giving.{Gives}
 use Rattle.station.specs.Passing.{GoesOnAsSource, OffersOn, has_offered, is_source}
 

@@ -13,6 +13,8 @@ pub mod Keeping
 pub mod Beginning
 pub mod Found
 pub mod Passing
+pub mod Kept
+pub mod KeptLaws
 pub mod PassingLaws
 pub mod Asked
 pub mod Spare

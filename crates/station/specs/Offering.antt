@@ -4,7 +4,7 @@ use Rattle.httparse.specs.Grammar.{RequestHead}
 use Rattle.httparse.specs.Spans.{name_and_value}
 use Rattle.serve_sources.specs.Credentials.{authorizes}
 use Rattle.import_changes.specs.declared.options.Skeletons.{Skeletons}
-use Rattle.serve_clients.specs.Client.{ClientState, cut, cut_for_memory, told, with_stage}
+use Rattle.serve_clients.specs.Client.{ClientState, cut, cut_for_memory, told}
 use Rattle.serve_clients.specs.declared.client.Stage.TheVariants.{Feeding, Waiting}
 use Rattle.serve_sources.specs.Answers.{answer_after, refusal}
 use Rattle.serve_sources.specs.Asking.{HasHead}

@@ -1,5 +1,5 @@
 -- Connections that have a spare place. Ours.
-use Rattle.std.specs.Prelude.{◌≡◌, ◌≢◌, ◌⊎◌, ℕ, Bool, true, false, not, nat_eq, Option, Some, None, List, ◌++◌}
+use Rattle.std.specs.Prelude.{◌≡◌, ◌≢◌, ◌⊎◌, ℕ, Bool, true, false, not, nat_eq, Option, None, List, ◌++◌}
 use Rattle.std.specs.List.{list_any}
 use Rattle.disk_model.specs.declared.disk.Disk.{Ghosts as DiskModel}
 use Rattle.serve_clients.specs.Client.{ClientState, cut_for_memory}

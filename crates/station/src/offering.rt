@@ -19,7 +19,8 @@ ghost use Rattle.serve_sources.specs.Answers.{refusal};
 ghost use Rattle.station.specs.Asked.{HasLast};
 ghost use Rattle.station.specs.Clocks.{KeepsClocks};
 ghost use Rattle.station.specs.Offering.{ComesOf, Feeds, GetsAir, IsOffered, IsRefusal, IsUnauthorized, Leads};
-ghost use Rattle.station.specs.Passing.{ArePassed, OffersNow, OffersOn};
+ghost use Rattle.station.specs.Kept.{AreTried};
+ghost use Rattle.station.specs.Passing.{OffersNow, OffersOn};
 ghost use Rattle.station.specs.Succeeding.{IsSucceeded, WasOffered, waits};
 
 use crate::Memory;
@@ -173,7 +174,7 @@ impl<D: Disk + Drop> Station<D> {
 
     /// The air is free: it is offered to the sources that wait for it, in turn, until one of them has it.
     pub(crate) fn offer_again(&mut self, now: u64)
-        ensures passed { ArePassed self.old.clients.slots self.new.clients.slots }
+        ensures tried { AreTried self.old.options.password now self.old.clients.slots self.new.clients.slots }
         ensures succeeded { self.old.air ≡ None → IsSucceeded self.old.clients.slots self.new.clients.slots self.new.air }
         ensures begins { self.old.air ≡ None → BeginsBeside (serials_in self.old.live.hub.file) self.old.options.skeletons (run_in self.new.air) }
         ensures others { (key : ℕ) → waits (get self.old.clients.slots key) ≡ false → get self.new.clients.slots key ≡ get self.old.clients.slots key }

@@ -10,6 +10,7 @@ ghost use Rattle.station.specs.Beginning.{BeginsBeside, run_in};
 ghost use Rattle.station.specs.Keeping.{OthersAirStays};
 ghost use Rattle.station.specs.Spare.{IsAnsweredInSpare, IsAskedInSpare, is_spare};
 ghost use Rattle.station.specs.declared.station.Unaccepted.{Unaccepted as UnacceptedOf};
+ghost use Rattle.station.specs.Clocks.{KeepsClocks};
 ghost use Rattle.serve_sources.specs.declared.answers.TheConstants.{FULL as FULL_TEXT};
 
 use crate::station::{Station, Unaccepted};
@@ -45,7 +46,7 @@ impl<D: Disk + Drop> Station<D> {
         ensures counts { self.new.counts ≡ self.old.counts }
         ensures live { self.new.live ≡ self.old.live }
         ensures air { self.new.air ≡ self.old.air }
-        ensures since { self.new.waiting_since ≡ self.old.waiting_since }
+        ensures clocks { KeepsClocks self.old self.new }
     {
         match self.spare.reserve(1) {
             Ok(()) => {}
@@ -70,7 +71,7 @@ impl<D: Disk + Drop> Station<D> {
         ensures air { OthersAirStays (Feeder.Peer key) self.old.air self.new.air }
         ensures begins { self.old.air ≡ None → BeginsBeside (serials_in self.old.live.hub.file) self.old.options.skeletons (run_in self.new.air) }
         ensures others { OthersStay key self.old.clients self.new.clients }
-        ensures since { self.new.waiting_since ≡ self.old.waiting_since }
+        ensures clocks { KeepsClocks self.old self.new }
     {
         let Some(client) = self.clients.slots.get_mut(key) else {
             return;
@@ -95,7 +96,7 @@ impl<D: Disk + Drop> Station<D> {
         ensures live { self.new.live ≡ self.old.live }
         ensures air { self.new.air ≡ self.old.air }
         ensures others { OthersStay key self.old.clients self.new.clients }
-        ensures since { self.new.waiting_since ≡ self.old.waiting_since }
+        ensures clocks { KeepsClocks self.old self.new }
     {
         match resource {
             OwnResource::Status => self.tell_numbers(key, head, now),
@@ -112,7 +113,7 @@ impl<D: Disk + Drop> Station<D> {
         ensures live { self.new.live ≡ self.old.live }
         ensures air { self.new.air ≡ self.old.air }
         ensures others { OthersStay key self.old.clients self.new.clients }
-        ensures since { self.new.waiting_since ≡ self.old.waiting_since }
+        ensures clocks { KeepsClocks self.old self.new }
     {
         self.counts.connections_refused = counted(self.counts.connections_refused, 1);
         if let Some(client) = self.clients.slots.get_mut(key) {

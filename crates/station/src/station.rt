@@ -10,7 +10,7 @@ ghost use Rattle.serve_hub.specs.Showing.{Shows};
 ghost use Rattle.serve_clients.specs.Client.{ClientState, HasWritten, fresh, given, moved_if, with_line, with_stage};
 ghost use Rattle.serve_clients.specs.Line.{moved_on};
 ghost use Rattle.station_hub.specs.Asking.{stage_after};
-ghost use Rattle.serve_clients.specs.declared.client.Stage.TheVariants.{Asking as AskingOf, Feeding as FeedingOf, Reading as ReadingOf, Waiting as WaitingOf};
+ghost use Rattle.serve_clients.specs.declared.client.Stage.TheVariants.{Asking as AskingOf, Feeding as FeedingOf, Offering as OfferingOf, Reading as ReadingOf, Waiting as WaitingOf};
 ghost use Rattle.station_sources.specs.Air.{HoldsMore, IsFedBy, IsShort, feeder_in};
 ghost use Rattle.station_sources.specs.declared.air.OnAir.{OnAir as OnAirOf};
 ghost use Rattle.station_sources.specs.Counting.{counted};
@@ -27,8 +27,9 @@ ghost use Rattle.serve_clients.specs.Patience.{is_refused};
 ghost use Rattle.station.specs.Asked.{EndsSession, HasCause, HasLast, IsAnswered, IsAsked, Joins};
 ghost use Rattle.station.specs.Spare.{IsAskedIn, is_another, is_spare};
 ghost use Rattle.std.specs.List.{filter};
-ghost use Rattle.station.specs.Clocks.{ended_with_input};
+ghost use Rattle.station.specs.Clocks.{KeepsClocks, clocks_of, ended_with_input};
 ghost use Rattle.station.specs.Ending.{is_over};
+ghost use Rattle.station.specs.Offering.{IsOffered};
 ghost use Rattle.station.specs.Passing.{GoesOnAsSource, IsLike, OffersOn, expects_nothing, is_source, session_in};
 ghost use Rattle.station.specs.Opening.{IsBegun, IsIdle};
 ghost use Rattle.station.specs.Turning.{IsTurnedAway, half_closed};
@@ -214,7 +215,7 @@ impl<D: Disk + Drop> Station<D> {
         ensures err { IfErr result (λ fault. (key : ℕ) → get self.new.clients.slots key ≡ get self.old.clients.slots key) }
         ensures live { self.new.live ≡ self.old.live }
         ensures air { self.new.air ≡ self.old.air }
-        ensures since { self.new.waiting_since ≡ self.old.waiting_since }
+        ensures clocks { KeepsClocks self.old self.new }
     {
         let count = self.clients.slots.len();
         if count.saturating_sub(self.options.most) >= TURNED_AWAY || self.ending.is_some() {
@@ -255,7 +256,7 @@ impl<D: Disk + Drop> Station<D> {
         ensures none { get self.old.clients.slots key ≡ None → self.new.air ≡ self.old.air }
         ensures session { EndsSession D.Disk (session_in (get self.old.clients.slots key)) self.old.live.hub self.new.live.hub }
         ensures spare { get self.old.clients.slots key ≢ None → self.new.spare.items ≡ filter (is_another key) self.old.spare.items }
-        ensures since { self.new.waiting_since ≡ self.old.waiting_since }
+        ensures clocks { KeepsClocks self.old self.new }
     {
         let client = self.clients.slots.try_remove(key)?;
         if let Some(id) = client.session {
@@ -288,6 +289,12 @@ impl<D: Disk + Drop> Station<D> {
             × IsAskedIn D.Disk (is_spare key self.old.spare.items) self.old.options.password self.old.live.places bytes.now self.old.live.hub self.new.live.hub client after }
         ensures offers { (client : ClientState) → get self.old.clients.slots key ≡ Some client → is_source client.stage ≡ true → (after : ClientState)
             × (get self.new.clients.slots key ≡ Some after) × GoesOnAsSource client after × (self.new.live.hub ≡ self.old.live.hub) }
+        // What the head of a source says becomes of it. One that waits stays as it is.
+        ensures offered { (client : ClientState) → get self.old.clients.slots key ≡ Some client → client.stage ≡ OfferingOf
+            → (after : ClientState) × (get self.new.clients.slots key ≡ Some after) × IsOffered key bytes.now now self.old.options.password
+            self.old.options.skeletons (serials_in self.old.live.hub.file) self.old.air self.new.air (with_line (moved_on client.line) client) after }
+        ensures waits { (client : ClientState) → get self.old.clients.slots key ≡ Some client → client.stage ≡ WaitingOf
+            → (get self.new.clients.slots key ≡ Some (with_line (moved_on client.line) client)) × (self.new.air ≡ self.old.air) }
         ensures ignores { (client : ClientState) → get self.old.clients.slots key ≡ Some client → expects_nothing client.stage ≡ true
             → (after : ClientState) × (get self.new.clients.slots key ≡ Some after) × IsLike client after × (self.new.live.hub ≡ self.old.live.hub) }
         ensures unread { (client : ClientState) → get self.old.clients.slots key ≡ Some client → client.stage ≡ ReadingOf → client.session ≡ None
@@ -305,7 +312,7 @@ impl<D: Disk + Drop> Station<D> {
         ensures air { OthersAirStays (Feeder.Peer key) self.old.air self.new.air }
         ensures begins { self.old.air ≡ None → BeginsBeside (serials_in self.old.live.hub.file) self.old.options.skeletons (run_in self.new.air) }
         ensures others { OthersStay key self.old.clients self.new.clients }
-        ensures since { self.new.waiting_since ≡ self.old.waiting_since }
+        ensures clocks { KeepsClocks self.old self.new }
     {
         let Some(client) = self.clients.slots.get(key) else {
             return;
@@ -327,7 +334,7 @@ impl<D: Disk + Drop> Station<D> {
         ensures air { OthersAirStays (Feeder.Peer key) self.old.air self.new.air }
         ensures begins { self.old.air ≡ None → BeginsBeside (serials_in self.old.live.hub.file) self.old.options.skeletons (run_in self.new.air) }
         ensures others { OthersStay key self.old.clients self.new.clients }
-        ensures since { self.new.waiting_since ≡ self.old.waiting_since }
+        ensures clocks { KeepsClocks self.old self.new }
     {
         if self.is_spare(key) {
             self.ask_in_spare(key, bytes, now);
@@ -346,7 +353,7 @@ impl<D: Disk + Drop> Station<D> {
         ensures air { OthersAirStays (Feeder.Peer key) self.old.air self.new.air }
         ensures begins { self.old.air ≡ None → BeginsBeside (serials_in self.old.live.hub.file) self.old.options.skeletons (run_in self.new.air) }
         ensures others { OthersStay key self.old.clients self.new.clients }
-        ensures since { self.new.waiting_since ≡ self.old.waiting_since }
+        ensures clocks { KeepsClocks self.old self.new }
     {
         let Some(client) = self.clients.slots.get_mut(key) else {
             return;
@@ -376,7 +383,7 @@ impl<D: Disk + Drop> Station<D> {
         ensures recorded { StaysLive D.Disk self.old.live self.new.live }
         ensures air { self.new.air ≡ self.old.air }
         ensures others { OthersStay key self.old.clients self.new.clients }
-        ensures since { self.new.waiting_since ≡ self.old.waiting_since }
+        ensures clocks { KeepsClocks self.old self.new }
     {
         if let Some(client) = self.clients.slots.get_mut(key) {
             notice(client, bytes);
@@ -388,6 +395,12 @@ impl<D: Disk + Drop> Station<D> {
     fn take_in(&mut self, key: usize, bytes: &[u8], now: u64)
         ensures offers { (client : ClientState) → get self.old.clients.slots key ≡ Some client → is_source client.stage ≡ true
             → (after : ClientState) × (get self.new.clients.slots key ≡ Some after) × GoesOnAsSource client after }
+        // What the head of a source says becomes of it. One that waits stays as it is.
+        ensures offered { (client : ClientState) → get self.old.clients.slots key ≡ Some client → client.stage ≡ OfferingOf
+            → (after : ClientState) × (get self.new.clients.slots key ≡ Some after) × IsOffered key bytes.now now self.old.options.password
+            self.old.options.skeletons (serials_in self.old.live.hub.file) self.old.air self.new.air (with_line (moved_on client.line) client) after }
+        ensures waits { (client : ClientState) → get self.old.clients.slots key ≡ Some client → client.stage ≡ WaitingOf
+            → (get self.new.clients.slots key ≡ Some (with_line (moved_on client.line) client)) × (self.new.air ≡ self.old.air) }
         ensures ignores { (client : ClientState) → get self.old.clients.slots key ≡ Some client → expects_nothing client.stage ≡ true
             → (after : ClientState) × (get self.new.clients.slots key ≡ Some after) × IsLike client after }
         ensures feeds { (client : ClientState) → get self.old.clients.slots key ≡ Some client → client.stage ≡ FeedingOf
@@ -398,7 +411,7 @@ impl<D: Disk + Drop> Station<D> {
         ensures begins { self.old.air ≡ None → BeginsBeside (serials_in self.old.live.hub.file) self.old.options.skeletons (run_in self.new.air) }
         ensures others { OthersStay key self.old.clients self.new.clients }
         ensures live { self.new.live ≡ self.old.live }
-        ensures since { self.new.waiting_since ≡ self.old.waiting_since }
+        ensures clocks { KeepsClocks self.old self.new }
     {
         let Some(client) = self.clients.slots.get_mut(key) else {
             return;
@@ -425,7 +438,7 @@ impl<D: Disk + Drop> Station<D> {
         ensures recorded { StaysLive D.Disk self.old.live self.new.live }
         ensures air { self.new.air ≡ self.old.air }
         ensures others { OthersStay key self.old.clients self.new.clients }
-        ensures since { self.new.waiting_since ≡ self.old.waiting_since }
+        ensures clocks { KeepsClocks self.old self.new }
     {
         let Some(client) = self.clients.slots.get_mut(key) else {
             return;
@@ -449,7 +462,7 @@ impl<D: Disk + Drop> Station<D> {
             → IsEndedBy (Feeder.Peer key) self.old.air self.new.air }
         ensures stays { (client : ClientState) → get self.old.clients.slots key ≡ Some client → client.stage ≢ FeedingOf
             → self.new.air ≡ self.old.air }
-        ensures since { self.new.waiting_since ≡ self.old.waiting_since }
+        ensures clocks { KeepsClocks self.old self.new }
     {
         let Some(client) = self.clients.slots.get_mut(key) else {
             return;
@@ -484,7 +497,7 @@ impl<D: Disk + Drop> Station<D> {
         ensures others { OthersStay key self.old.clients self.new.clients }
         ensures air { self.new.air ≡ self.old.air }
         ensures within { result ≤ length buffer.new }
-        ensures since { self.new.waiting_since ≡ self.old.waiting_since }
+        ensures clocks { KeepsClocks self.old self.new }
     {
         self.refuse_if_waited(key, now);
         self.give(key, buffer, now)
@@ -502,7 +515,7 @@ impl<D: Disk + Drop> Station<D> {
         ensures others { OthersStay key self.old.clients self.new.clients }
         ensures live { self.new.live ≡ self.old.live }
         ensures air { self.new.air ≡ self.old.air }
-        ensures since { self.new.waiting_since ≡ self.old.waiting_since }
+        ensures clocks { KeepsClocks self.old self.new }
     {
         if let Some(client) = self.clients.slots.get(key) {
             if is_refused(client, now) {
@@ -522,7 +535,7 @@ impl<D: Disk + Drop> Station<D> {
         ensures others { OthersStay key self.old.clients self.new.clients }
         ensures air { self.new.air ≡ self.old.air }
         ensures within { result ≤ length buffer.new }
-        ensures since { self.new.waiting_since ≡ self.old.waiting_since }
+        ensures clocks { KeepsClocks self.old self.new }
     {
         let over = self.is_over();
         let Some(client) = self.clients.slots.get_mut(key) else {
@@ -544,7 +557,7 @@ impl<D: Disk + Drop> Station<D> {
         ensures others { OthersStay key self.old.clients self.new.clients }
         ensures live { self.new.live ≡ self.old.live }
         ensures air { self.new.air ≡ self.old.air }
-        ensures since { self.new.waiting_since ≡ self.old.waiting_since }
+        ensures clocks { KeepsClocks self.old self.new }
     {
         let Some(client) = self.clients.slots.get_mut(key) else {
             return;
@@ -573,7 +586,7 @@ impl<D: Disk + Drop> Station<D> {
         ensures begins { self.old.air ≡ None → OnOk result ((air : OnAirOf)
             × HasBegun Feeder.Input None (options_for self.old.options.skeletons) (serials_in self.old.live.hub.file) air
             × IsFedMore Feeder.Input bytes.now (Some air) self.new.air) }
-        ensures since { self.new.waiting_since ≡ self.old.waiting_since }
+        ensures clocks { KeepsClocks self.old self.new }
     {
         if self.air.is_none() {
             self.begin_air(Feeder::Input, None, now)?;
@@ -585,10 +598,9 @@ impl<D: Disk + Drop> Station<D> {
     /// The input has ended.
     pub fn input_ended(&mut self, now: u64)
         ensures air { IsEndedBy Feeder.Input self.old.air self.new.air }
-        ensures ending { self.new.ending ≡ ended_with_input self.old.options.ends_with_input self.old.ending now }
         ensures clients { self.new.clients ≡ self.old.clients }
         ensures live { self.new.live ≡ self.old.live }
-        ensures since { self.new.waiting_since ≡ self.old.waiting_since }
+        ensures clocks { clocks_of self.new ≡ record (clocks_of self.old) { ending = ended_with_input self.old.options.ends_with_input self.old.ending now } }
     {
         self.end_air(Feeder::Input);
         if self.options.ends_with_input {
@@ -604,7 +616,7 @@ impl<D: Disk + Drop> Station<D> {
         ensures clients { self.new.clients ≡ self.old.clients }
         ensures live { self.new.live ≡ self.old.live }
         ensures options { self.new.options ≡ self.old.options }
-        ensures since { self.new.waiting_since ≡ self.old.waiting_since }
+        ensures clocks { KeepsClocks self.old self.new }
     {
         if let Some(air) = &mut self.air {
             if air.feeder().is(feeder) {
@@ -621,7 +633,7 @@ impl<D: Disk + Drop> Station<D> {
         ensures clients { self.new.clients ≡ self.old.clients }
         ensures live { self.new.live ≡ self.old.live }
         ensures options { self.new.options ≡ self.old.options }
-        ensures since { self.new.waiting_since ≡ self.old.waiting_since }
+        ensures clocks { KeepsClocks self.old self.new }
     {
         if let Some(air) = &mut self.air {
             if air.feeder() == Feeder::Peer(key) {
@@ -638,7 +650,7 @@ impl<D: Disk + Drop> Station<D> {
         ensures live { self.new.live ≡ self.old.live }
         ensures options { self.new.options ≡ self.old.options }
         ensures ending { self.new.ending ≡ self.old.ending }
-        ensures since { self.new.waiting_since ≡ self.old.waiting_since }
+        ensures clocks { KeepsClocks self.old self.new }
     {
         if let Some(air) = &mut self.air {
             if air.feeder() == feeder {

@@ -18,6 +18,7 @@ ghost use Rattle.station.specs.Beginning.{BeginsBeside, GoesOnAgain, HasReopened
 ghost use Rattle.station_sources.specs.Air.{parting_answer};
 ghost use Rattle.station_sources.specs.Taking.{is_foreign};
 ghost use Rattle.station.specs.Parting.{FeederParts, HasParted};
+ghost use Rattle.station.specs.Kept.{AreKept, AreLeft};
 ghost use Rattle.station.specs.Passing.{ArePassed};
 ghost use Rattle.station_hub.specs.Live.{RecordsLive};
 ghost use Rattle.station_sources.specs.declared.air.OnAir.{OnAir as OnAirOf};
@@ -161,8 +162,11 @@ impl<D: Disk + Drop> Station<D> {
         // While something waits for them, they weren't to be woken.
         ensures undue_yet { (machine : HubState) → Shows D.Disk self.new.live.hub machine → self.new.waking.unheard ≡ true
             → are_due (gathers self.new.air self.new.ending) self.new.waking now (length machine.committed) ≡ false }
-        // No session is touched, and the places stay those of the file. Of the connections, sources alone may change.
+        // No session is touched, and the places stay those of the file.
         ensures records { RecordsLive D.Disk self.old.live self.new.live }
+        // Of the connections only the one changes that sent the source which has left the air, and those that waited for
+        // it; others may have got a turn.
+        ensures kept { AreKept self.old.options.password now self.old.clients.slots self.new.clients.slots }
         ensures passed { ArePassed self.old.clients.slots self.new.clients.slots }
     {
         let end = self.live.hub().end();
@@ -234,7 +238,7 @@ impl<D: Disk + Drop> Station<D> {
         ensures more { failed_in self.old.live.hub.file ≡ true → result ≢ Done.Failed → (machine : HubState) → Shows D.Disk self.old.live.hub machine
             → self.old.reopened ≢ Some (length machine.committed) }
         ensures works { failed_in self.old.live.hub.file ≡ false → self.new.reopened ≡ self.old.reopened }
-        ensures passed { ArePassed self.old.clients.slots self.new.clients.slots }
+        ensures kept { AreKept self.old.options.password now self.old.clients.slots self.new.clients.slots }
     {
         if self.live.hub().is_failed() {
             return self.reopen(now);
@@ -268,7 +272,7 @@ impl<D: Disk + Drop> Station<D> {
         ensures nothing { result ≡ Done.Nothing → (self.new.live ≡ self.old.live) × (self.new.air ≡ self.old.air) }
         ensures records { RecordsLive D.Disk self.old.live self.new.live }
         ensures clocks { KeepsClocks self.old self.new }
-        ensures passed { ArePassed self.old.clients.slots self.new.clients.slots }
+        ensures kept { AreKept self.old.options.password now self.old.clients.slots self.new.clients.slots }
     {
         let Some(air) = &mut self.air else {
             return Done::Nothing;
@@ -316,7 +320,7 @@ impl<D: Disk + Drop> Station<D> {
         ensures begins { self.old.air ≢ None → BeginsBeside (serials_in self.new.live.hub.file) self.old.options.skeletons (run_in self.new.air) }
         ensures records { RecordsLive D.Disk self.old.live self.new.live }
         ensures clocks { KeepsClocks self.old self.new }
-        ensures passed { ArePassed self.old.clients.slots self.new.clients.slots }
+        ensures kept { AreKept self.old.options.password now self.old.clients.slots self.new.clients.slots }
     {
         match self.air.take() {
             Some(air) => self.left_by(&air, given_up, now),
@@ -332,7 +336,7 @@ impl<D: Disk + Drop> Station<D> {
         ensures begins { self.old.air ≡ None → BeginsBeside (serials_in self.new.live.hub.file) self.old.options.skeletons (run_in self.new.air) }
         ensures records { RecordsLive D.Disk self.old.live self.new.live }
         ensures clocks { KeepsClocks self.old self.new }
-        ensures passed { ArePassed self.old.clients.slots self.new.clients.slots }
+        ensures kept { AreKept self.old.options.password now self.old.clients.slots self.new.clients.slots }
     {
         self.waking = self.waking.with_more();
         let refused = self.unended();
@@ -359,7 +363,7 @@ impl<D: Disk + Drop> Station<D> {
         ensures parts { FeederParts (parting_answer lost air.now) air.now self.old.clients.slots self.new.clients.slots }
         ensures waits { SameWait self.old.clients.slots self.new.clients.slots }
         ensures rest { self.new ≡ record self.old { clients = self.new.clients } }
-        ensures passed { ArePassed self.old.clients.slots self.new.clients.slots }
+        ensures left { AreLeft self.old.clients.slots self.new.clients.slots }
     {
         if let Feeder::Peer(key) = air.feeder() {
             self.part(key, air.answer(lost));
@@ -373,7 +377,7 @@ impl<D: Disk + Drop> Station<D> {
         ensures waits { SameWait self.old.clients.slots self.new.clients.slots }
         ensures others { OthersStay key self.old.clients self.new.clients }
         ensures rest { self.new ≡ record self.old { clients = self.new.clients } }
-        ensures passed { ArePassed self.old.clients.slots self.new.clients.slots }
+        ensures left { AreLeft self.old.clients.slots self.new.clients.slots }
     {
         let Some(client) = self.clients.slots.get_mut(key) else {
             return;
@@ -419,7 +423,7 @@ impl<D: Disk + Drop> Station<D> {
         ensures again { result ≡ Done.Failed → HasReopenedAt D.Disk self.old.live self.old.reopened }
         ensures once { (result ≡ Done.Failed) ⊎ HasReopenedAt D.Disk self.old.live self.new.reopened }
         ensures more { result ≢ Done.Failed → (machine : HubState) → Shows D.Disk self.old.live.hub machine → self.old.reopened ≢ Some (length machine.committed) }
-        ensures passed { ArePassed self.old.clients.slots self.new.clients.slots }
+        ensures kept { AreKept self.old.options.password now self.old.clients.slots self.new.clients.slots }
     {
         let end = self.live.hub().end();
         if self.reopened == Some(end) {
@@ -451,7 +455,7 @@ impl<D: Disk + Drop> Station<D> {
             ⊎ ((fault : RecordFaultOf) × (refused : Option RefusalOf) × (result ≡ Done.GivenUp fault refused)) }
         ensures records { RecordsLive D.Disk self.old.live self.new.live }
         ensures clocks { KeepsClocks self.old self.new }
-        ensures passed { ArePassed self.old.clients.slots self.new.clients.slots }
+        ensures kept { AreKept self.old.options.password now self.old.clients.slots self.new.clients.slots }
     {
         let Some(air) = &mut self.air else {
             return Done::Reopened(only_refused(self.end_open()));
@@ -477,7 +481,7 @@ impl<D: Disk + Drop> Station<D> {
         ensures begins { self.old.air ≢ None → BeginsBeside (serials_in self.new.live.hub.file) self.old.options.skeletons (run_in self.new.air) }
         ensures records { RecordsLive D.Disk self.old.live self.new.live }
         ensures clocks { KeepsClocks self.old self.new }
-        ensures passed { ArePassed self.old.clients.slots self.new.clients.slots }
+        ensures kept { AreKept self.old.options.password now self.old.clients.slots self.new.clients.slots }
     {
         let refused = self.leave_the_air(true, now);
         Done::GivenUp { fault, refused }

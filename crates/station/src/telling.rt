@@ -12,6 +12,7 @@ ghost use Rattle.serve_machine.specs.Hub.{HubState};
 ghost use Rattle.station_hub.specs.Telling.{in_seconds};
 ghost use Rattle.serve_clients.specs.Kinds.{both, kinds_in};
 ghost use Rattle.station.specs.Telling.{AreKinds, IsCounted, mends_of, on_air_for};
+ghost use Rattle.station.specs.Clocks.{KeepsClocks};
 
 use crate::station::Station;
 use disk_model::Disk;
@@ -82,7 +83,7 @@ impl<D: Disk + Drop> Station<D> {
         ensures others { OthersStay key self.old.clients self.new.clients }
         ensures live { self.new.live ≡ self.old.live }
         ensures air { self.new.air ≡ self.old.air }
-        ensures since { self.new.waiting_since ≡ self.old.waiting_since }
+        ensures clocks { KeepsClocks self.old self.new }
     {
         let numbers = self.numbers(now);
         if let Some(client) = self.clients.slots.get_mut(key) {
@@ -117,7 +118,7 @@ impl<D: Disk + Drop> Station<D> {
         ensures live { self.new.live ≡ self.old.live }
         ensures clients { self.new.clients ≡ self.old.clients }
         ensures air { self.new.air ≡ self.old.air }
-        ensures since { self.new.waiting_since ≡ self.old.waiting_since }
+        ensures clocks { KeepsClocks self.old self.new }
     {
         let spent = self.counts.commit_microseconds;
         self.counts.commit_microseconds = counted(spent, microseconds);

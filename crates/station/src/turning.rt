@@ -14,10 +14,11 @@ ghost use Rattle.serve_clients.specs.Kinds.{both, kinds_in};
 ghost use Rattle.station_sources.specs.Air.{feeder_in};
 ghost use Rattle.station.specs.Clocks.{KeepsClocks, ended_from};
 ghost use Rattle.station.specs.Ending.{gathers, has_finished, is_over};
-ghost use Rattle.station.specs.Passing.{ArePassed, IsLike};
+ghost use Rattle.station.specs.Kept.{AreTurned};
+ghost use Rattle.station.specs.Passing.{IsLike};
 ghost use Rattle.station.specs.Succeeding.{HaveTurns};
 ghost use Rattle.station.specs.Turning.{GoesOn, IsRead, waits_for_more};
-ghost use Rattle.station.specs.Waiting.{until_next};
+ghost use Rattle.station.specs.Waiting.{until_look, until_next};
 ghost use Rattle.station_hub.specs.Waking.{is_due, listeners_every, until_due, woken_at};
 
 use crate::station::Station;
@@ -26,7 +27,7 @@ use serve_clients::{After, Stage, Trouble};
 use station_hub::{Waking, sooner};
 use station_sources::{Feeder, Shown};
 
-/// For how many milliseconds is waited at most, if nothing comes.
+/// After how many milliseconds everybody has a turn.
 const LOOKS: u64 = 1000;
 
 /// For how many milliseconds connections are waited for at the end.
@@ -61,7 +62,7 @@ impl<D: Disk + Drop> Station<D> {
         ensures others { IfSome result (λ key. OthersStay key self.old.clients self.new.clients) }
         ensures live { self.new.live ≡ self.old.live }
         ensures air { self.new.air ≡ self.old.air }
-        ensures since { self.new.waiting_since ≡ self.old.waiting_since }
+        ensures clocks { KeepsClocks self.old self.new }
     {
         self.clients.next_turn()
     }
@@ -99,7 +100,7 @@ impl<D: Disk + Drop> Station<D> {
         ensures others { OthersStay key self.old.clients self.new.clients }
         ensures live { self.new.live ≡ self.old.live }
         ensures air { self.new.air ≡ self.old.air }
-        ensures since { self.new.waiting_since ≡ self.old.waiting_since }
+        ensures clocks { KeepsClocks self.old self.new }
     {
         self.clients.read_failed(key, trouble);
     }
@@ -112,7 +113,7 @@ impl<D: Disk + Drop> Station<D> {
         ensures others { OthersStay key self.old.clients self.new.clients }
         ensures live { self.new.live ≡ self.old.live }
         ensures air { self.new.air ≡ self.old.air }
-        ensures since { self.new.waiting_since ≡ self.old.waiting_since }
+        ensures clocks { KeepsClocks self.old self.new }
     {
         self.clients.write_failed(key, bytes, trouble);
     }
@@ -136,7 +137,7 @@ impl<D: Disk + Drop> Station<D> {
         ensures others { OthersStay key self.old.clients self.new.clients }
         ensures live { self.new.live ≡ self.old.live }
         ensures air { self.new.air ≡ self.old.air }
-        ensures since { self.new.waiting_since ≡ self.old.waiting_since }
+        ensures clocks { KeepsClocks self.old self.new }
     {
         let reads = self.reads(key);
         let rests = self.waits_for_more(key);
@@ -156,7 +157,7 @@ impl<D: Disk + Drop> Station<D> {
     }
 
     /// Whoever hears what is recorded has a turn, if there is more for them and it is time.
-    #[tactic(auto, using(crate::proofs::Succeeding::woken, crate::proofs::Passed::woken, crate::specs::PassingLaws::all_stay))]
+    #[tactic(auto, using(crate::proofs::Succeeding::woken, crate::proofs::Kept::woken, crate::specs::KeptLaws::all_turned))]
     pub(crate) fn wake_listeners(&mut self, now: u64)
         ensures due { (machine : HubState) → Shows D.Disk self.old.live.hub machine
             → is_due (gathers self.old.air self.old.ending) self.old.waking now (length machine.committed) ≡ true
@@ -165,7 +166,7 @@ impl<D: Disk + Drop> Station<D> {
             → is_due (gathers self.old.air self.old.ending) self.old.waking now (length machine.committed) ≡ false → self.new ≡ self.old }
         ensures clocks { KeepsClocks self.old self.new }
         ensures turns { HaveTurns self.old.clients.slots self.new.clients.slots }
-        ensures passed { ArePassed self.old.clients.slots self.new.clients.slots }
+        ensures turned { AreTurned self.old.clients.slots self.new.clients.slots }
         ensures live { self.new.live ≡ self.old.live }
         ensures air { self.new.air ≡ self.old.air }
     {
@@ -196,7 +197,7 @@ impl<D: Disk + Drop> Station<D> {
         ensures turn { (key : ℕ) (client : ClientState) → feeder_in self.old.air ≡ Some (Feeder.Peer key) → get self.old.clients.slots key ≡ Some client
             → IsRead key client self.old.air → HasTurn key (told_by false false client) self.old.clients self.new.clients }
         ensures turns { HaveTurns self.old.clients.slots self.new.clients.slots }
-        ensures passed { ArePassed self.old.clients.slots self.new.clients.slots }
+        ensures turned { AreTurned self.old.clients.slots self.new.clients.slots }
     {
         if let Some(Feeder::Peer(key)) = self.feeder() {
             if self.reads(key) {
@@ -214,7 +215,7 @@ impl<D: Disk + Drop> Station<D> {
             × (self.new.commits_a_second ≡ self.old.counts.commits - self.old.commits) }
         ensures live { self.new.live ≡ self.old.live }
         ensures air { self.new.air ≡ self.old.air }
-        ensures since { self.new.waiting_since ≡ self.old.waiting_since }
+        ensures clocks { KeepsClocks self.old self.new }
     {
         if now.saturating_sub(self.looked) < LOOKS {
             return false;
@@ -246,17 +247,19 @@ impl<D: Disk + Drop> Station<D> {
     pub fn until_next(&self, now: u64) -> u64
         ensures exactly { (machine : HubState) → Shows D.Disk self.now.live.hub machine
             → result ≡ until_next self.now.clients.turns.len (until_commit machine.waiting self.now.waiting_since now)
-            (until_due (gathers self.now.air self.now.ending) self.now.waking now (length machine.committed)) }
+            (until_due (gathers self.now.air self.now.ending) self.now.waking now (length machine.committed))
+            (until_look self.now.looked now) }
         ensures turn { 0 < self.now.clients.turns.len → result ≡ 0 }
         ensures waking { self.now.waking.unheard ≡ true → result ≤ listeners_every - (now - self.now.waking.woken) }
-        ensures most { result ≤ 1000 }
+        ensures looks { result ≤ until_look self.now.looked now }
     {
         if self.clients.turns() > 0 {
             return 0;
         }
         let end = self.live.hub().end();
         let waking = self.waking.until_due(self.gathers(), now, end);
-        sooner(self.until_due(now), sooner(waking, LOOKS))
+        let looks = LOOKS.saturating_sub(now.saturating_sub(self.looked));
+        sooner(self.until_due(now), sooner(waking, looks))
     }
 
     /// The station comes to its end: no connection is taken any more, and who hears what is recorded is closed once it has

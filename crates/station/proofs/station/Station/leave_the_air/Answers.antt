@@ -1,4 +1,4 @@
-use Rattle.std.proofs.Common.{◌≡◌, None, is_some, sym, ◌∙◌, ap, subst, ◌||◌}
+use Rattle.std.proofs.Common.{is_some, ◌∙◌, subst, ◌||◌}
 use Rattle.station.specs.Parting.{FeederParts}
 use Rattle.station.proofs.Leaving.{same_air}
 use Rattle.station_sources.specs.Air.{parting_answer}
@@ -20,8 +20,8 @@ returns-in-Some-clause-begins g c some = c.left_by.ensures.begins c.take.ensures
 pub returns-in-Some-clause-records : goal.returns-in-Some-clause-records
 returns-in-Some-clause-records g c = c.left_by.ensures.records
 
-pub returns-in-Some-clause-passed : goal.returns-in-Some-clause-passed
-returns-in-Some-clause-passed g c = c.left_by.ensures.passed
+pub returns-in-Some-clause-kept : goal.returns-in-Some-clause-kept
+returns-in-Some-clause-kept g c = c.left_by.ensures.kept
 
 pub returns-in-Some-clause-at_rest : goal.returns-in-Some-clause-at_rest
 returns-in-Some-clause-at_rest g c some = c.left_by.ensures.at_rest

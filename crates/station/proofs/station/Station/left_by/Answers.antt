@@ -6,12 +6,12 @@ use Rattle.station_hub.specs.declared.live_hub.LiveHub.{LiveHub}
 use Rattle.station.specs.Beginning.{BeginsBeside, run_in}
 use Rattle.station.specs.declared.station.Options.{Options}
 use Rattle.station.specs.Parting.{HasParted}
-use Rattle.station.specs.Passing.{ArePassed}
+use Rattle.station.specs.Kept.{AreKept, AreTried}
 use Rattle.station.specs.Clocks.{clocks_of}
 use Rattle.station.specs.Stepping.{RestsUnless}
 use Rattle.station_sources.specs.Air.{parting_answer}
 use Rattle.station.specs.Succeeding.{IsSucceeded, waits}
-use Rattle.station.proofs.Passed.{all_then}
+use Rattle.station.proofs.Kept.{left_then_tried}
 use Rattle.station.proofs.Succeeding.{parted_waits, succeeded}
 use Rattle.station.proofs.station.Station.left_by.Goals as goal
 
@@ -33,10 +33,13 @@ returns g c = record {
   records =
       subst (λ live. RecordsLive g.D.Disk c.args.self.now.live live) (sym (c.offer_again.ensures.live ∙ ap (λ s. s.live) c.answer_feeder.ensures.rest))
       c.unended-refused.ensures.records;
-  passed =
-      subst (λ slots. ArePassed slots c.offer_again.new.self.clients.slots) (ap (λ s. s.clients.slots) c.unended-refused.ensures.rest)
-      (all_then c.unended-refused.new.self.clients.slots c.answer_feeder.new.self.clients.slots c.offer_again.new.self.clients.slots
-      c.answer_feeder.ensures.passed c.offer_again.ensures.passed);
+  kept =
+      subst (λ slots. AreKept c.args.self.now.options.password c.args.now slots c.offer_again.new.self.clients.slots)
+      (ap (λ s. s.clients.slots) c.unended-refused.ensures.rest)
+      (left_then_tried c.args.self.now.options.password c.args.now c.unended-refused.new.self.clients.slots c.answer_feeder.new.self.clients.slots
+      c.offer_again.new.self.clients.slots c.answer_feeder.ensures.left
+      (subst (λ password. AreTried password c.args.now c.answer_feeder.new.self.clients.slots c.offer_again.new.self.clients.slots)
+      (ap (λ s. s.options.password) c.answer_feeder.ensures.rest ∙ ap (λ s. s.options.password) c.unended-refused.ensures.rest) c.offer_again.ensures.tried));
   succeeded = λ free.
       let before = c.unended-refused.new.self.clients.slots in
       subst (λ slots. IsSucceeded slots c.offer_again.new.self.clients.slots c.offer_again.new.self.air) (ap (λ s. s.clients.slots) c.unended-refused.ensures.rest)

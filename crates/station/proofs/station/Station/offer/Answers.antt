@@ -1,4 +1,4 @@
-use Rattle.std.proofs.Common.{◌≡◌, ℕ, Option, Some, List, ◌++◌, refl, sym, ◌∙◌, ap, subst, inl, inr}
+use Rattle.std.proofs.Common.{◌≡◌, ℕ, Some, List, ◌++◌, refl, sym, ◌∙◌, ap, subst, inl, inr}
 use Rattle.slab.specs.Slab.{get}
 use Rattle.serve_clients.specs.Client.{ClientState, cut, memory_refused}
 use Rattle.serve_sources.specs.Asking.{HasHead}
@@ -6,18 +6,14 @@ use Rattle.serve_sources.specs.Offer.{IsUnread}
 use Rattle.serve_sources.specs.declared.offer.Offer.TheVariants.{More}
 use Rattle.serve_sources.specs.declared.password.Password.{Password}
 use Rattle.serve_hub.specs.Parts.{serials_in}
-use Rattle.station_sources.specs.Air.{feeder_in}
-use Rattle.station_sources.specs.declared.air.Feeder.{Feeder}
-use Rattle.station_sources.specs.declared.air.Feeder.TheVariants.{Peer}
-use Rattle.station.specs.Beginning.{BeginsBeside}
-use Rattle.station.specs.Passing.{has_offered, is_source}
+use Rattle.station.specs.Passing.{is_source}
 use Rattle.station.proofs.Results.{err_of, none_if, ok_of}
 use Rattle.station.proofs.Asked.{begins_none}
 use Rattle.station.specs.Found.{placed, same_client}
 use Rattle.station.specs.Offering.{ComesOf, IsUnauthorized, Leads, with_more}
 use Rattle.station.specs.Succeeding.{WasOffered, is_waiting}
 use Rattle.station.proofs.Offered.{leads_begins, leads_feeder, leads_keeps, leads_offered, leads_on, leads_refused, offers_self, others_placed, was_placed}
-use Rattle.station.proofs.Passed.{offered_to, source_is}
+use Rattle.station.proofs.Passed.{offered_to}
 use Rattle.station.proofs.station.Station.offer.Given.{Over}
 use Rattle.station.proofs.station.Station.offer.Goals as goal
 

@@ -1,12 +1,12 @@
-use Rattle.std.proofs.Common.{◌≡◌, ◌+◌, None, sym, ◌∙◌, subst, arith}
-use Rattle.slab.specs.Slab.{get}
+use Rattle.std.proofs.Common.{◌≡◌, ◌+◌, None, [], sym, ◌∙◌, ap, subst, arith}
 use Rattle.serve_hub.specs.Parts.{serials_in}
 use Rattle.station_hub.specs.declared.live_hub.LiveHub.{LiveHub}
 use Rattle.station.specs.Clocks.{KeepsClocks}
 use Rattle.station.specs.Beginning.{BeginsBeside, run_in}
 use Rattle.station.specs.declared.station.Options.{Options}
-use Rattle.station.specs.Passing.{ArePassed}
-use Rattle.station.proofs.Passed.{all_then, offers_if, one_passed}
+use Rattle.station.specs.Kept.{AreTried}
+use Rattle.station.specs.Offering.{IsOffered}
+use Rattle.station.proofs.Kept.{tries_one}
 use Rattle.station.proofs.Succeeding.{HasTried, OthersStand, StayFrom, all_tried, is_free, is_other, is_taken, one_has, stay_behind, tries, tries_past}
 use Rattle.station.proofs.station.Station.offer_again.Goals as goal
 use Rattle.station.proofs.station.Station.offer_again.Goals.{then-waits, else-waits}
@@ -36,7 +36,7 @@ loop-key-preserved g c =
           (c.args.self.now.air ≡ None → HasTried old self.clients.slots self.air (key + 1)) × StayFrom old self.clients.slots (key + 1)
           × OthersStand old self.clients.slots × (self.live ≡ c.args.self.now.live) × (self.options ≡ c.args.self.now.options)
           × (c.args.self.now.air ≡ None → BeginsBeside (serials_in c.args.self.now.live.hub.file) c.args.self.now.options.skeletons (run_in self.air))
-          × ArePassed old self.clients.slots × (c.capacity-key-end.result ≡ old.capacity) × KeepsClocks c.args.self.now self) (sym w.self-is) (
+          × AreTried c.args.self.now.options.password c.args.now old self.clients.slots × (c.capacity-key-end.result ≡ old.capacity) × KeepsClocks c.args.self.now self) (sym w.self-is) (
             λ start. tries old was.clients.slots new.clients.slots was.air new.air key free (tried start) stay waited w.offer.ensures.others
                 (w.offer.ensures.offered free) w.offer.ensures.feeder,
             stay_behind old was.clients.slots new.clients.slots key stay w.offer.ensures.others,
@@ -45,9 +45,17 @@ loop-key-preserved g c =
             w.offer.ensures.options ∙ options,
             λ start. subst (λ (live : LiveHub _). BeginsBeside (serials_in live.hub.file) c.args.self.now.options.skeletons (run_in new.air)) live
                 (subst (λ (one : Options). BeginsBeside (serials_in was.live.hub.file) one.skeletons (run_in new.air)) options (w.offer.ensures.begins free)),
-            all_then old was.clients.slots new.clients.slots passed
-                (one_passed was.clients.slots new.clients.slots key w.offer.ensures.others
-                (offers_if (get was.clients.slots key) (get new.clients.slots key) waited w.offer.ensures.source)),
+            tries_one c.args.self.now.options.password c.args.now key was.options.skeletons (serials_in was.live.hub.file) new.air old was.clients.slots
+                new.clients.slots passed (stay key (omega arith)) waited w.offer.ensures.others
+                (λ client found.
+                let (after, left, offered) = w.offer.ensures.leads client found in (
+                  after,
+                  left,
+                  subst (λ password. IsOffered key [] c.args.now password was.options.skeletons (serials_in was.live.hub.file) None new.air client after)
+                      (ap (λ (one : Options). one.password) options)
+                      (subst (λ air. IsOffered key [] c.args.now was.options.password was.options.skeletons (serials_in was.live.hub.file) air new.air client after)
+                      free offered),
+                )),
             bound,
             w.offer.ensures.clocks ∙ clocks,
           )
@@ -56,7 +64,7 @@ loop-key-preserved g c =
           (c.args.self.now.air ≡ None → HasTried old self.clients.slots self.air (key + 1)) × StayFrom old self.clients.slots (key + 1)
           × OthersStand old self.clients.slots × (self.live ≡ c.args.self.now.live) × (self.options ≡ c.args.self.now.options)
           × (c.args.self.now.air ≡ None → BeginsBeside (serials_in c.args.self.now.live.hub.file) c.args.self.now.options.skeletons (run_in self.air))
-          × ArePassed old self.clients.slots × (c.capacity-key-end.result ≡ old.capacity) × KeepsClocks c.args.self.now self) (sym w.self-is) (
+          × AreTried c.args.self.now.options.password c.args.now old self.clients.slots × (c.capacity-key-end.result ≡ old.capacity) × KeepsClocks c.args.self.now self) (sym w.self-is) (
             λ start. tries_past old was.clients.slots was.air key free (tried start) stay (sym c.waits.ensures ∙ w.if-waits.false),
             λ other above. stay other (omega (arith, above)),
             others,

@@ -1,16 +1,15 @@
 use denote.Enum.Bare.{sameb}
 use Rattle.serve_clients.specs.contracts.client.Stage.{the_type}
 use Rattle.serve_clients.specs.declared.client.Stage.{Stage}
-use Rattle.std.proofs.Common.{◌≡◌, ◌⊎◌, ℕ, true, false, not, List, Option, refl, sym, ◌∙◌, ap, subst, inl, inr}
+use Rattle.std.proofs.Common.{◌≡◌, ◌⊎◌, ℕ, false, not, List, Option, refl, sym, ◌∙◌, ap, subst, inl, inr}
 use Rattle.serve_clients.specs.Client.{ClientState, cut_for_memory, told, with_stage}
 use Rattle.serve_clients.specs.declared.client.Stage.TheVariants.{Asking, Offering, Waiting, Feeding, Reading, Sending, Hearing, Ending, Closing, Cut}
 use Rattle.serve_sources.specs.declared.outcome.Outcome.{Outcome}
 use Rattle.station.specs.Parting.{HasParted}
 use Rattle.station.specs.Found.{placed, same_client}
-use Rattle.station.specs.Passing.{GoesOnAsSource, has_offered, is_source}
 use Rattle.station.specs.Succeeding.{is_waiting}
 use Rattle.station.proofs.Offered.{others_placed, waits_placed}
-use Rattle.station.proofs.Passed.{placed_passed}
+use Rattle.station.proofs.Kept.{placed_left}
 use Rattle.station.proofs.station.Station.part.Goals as goal
 
 pub returns-in-Some-answer-clause-parts : goal.returns-in-Some-answer-clause-parts
@@ -33,36 +32,39 @@ returns-in-None-clause-parts g c client is feeding =
           (c.go_to.ensures ∙ ap (with_stage Ending) same),
     )
 
-feeding : (stage : Stage) → false ≡ not (sameb the_type stage Feeding) → is_source stage ≡ true
-feeding Offering e = refl
-feeding Waiting e = refl
-feeding Feeding e = refl
-feeding Asking e = cc
-feeding Reading e = cc
-feeding Sending e = cc
-feeding Hearing e = cc
-feeding Ending e = cc
-feeding Closing e = cc
-feeding Cut e = cc
+is_feeding : (stage : Stage) → false ≡ not (sameb the_type stage Feeding) → stage ≡ Feeding
+is_feeding Feeding e = refl
+is_feeding Offering e = cc
+is_feeding Waiting e = cc
+is_feeding Asking e = cc
+is_feeding Reading e = cc
+is_feeding Sending e = cc
+is_feeding Hearing e = cc
+is_feeding Ending e = cc
+is_feeding Closing e = cc
+is_feeding Cut e = cc
 
-last : (text : List ℕ) (old new : ClientState) → (new ≡ with_stage Ending (told text old)) ⊎ (new ≡ cut_for_memory old) → GoesOnAsSource old new
-last text old new (inl is) = (ap (λ (one : ClientState). has_offered one.stage) is, ap (λ (one : ClientState). one.session) is)
-last text old new (inr is) = (ap (λ (one : ClientState). has_offered one.stage) is, ap (λ (one : ClientState). one.session) is)
-
-pub returns-in-Some-answer-clause-passed : goal.returns-in-Some-answer-clause-passed
-returns-in-Some-answer-clause-passed g c =
+pub returns-in-Some-answer-clause-left : goal.returns-in-Some-answer-clause-left
+returns-in-Some-answer-clause-left g c =
     let old = c.in-Some.client.now in
-    let source : is_source old.stage ≡ true =
-    sym (ap (λ (one : ClientState). is_source one.stage) c.client.view_is) ∙ feeding c.client.inside.stage c.if-ne.ensures in
-    placed_passed c.args.self.now.clients.slots c.args.key old c.tell_last.new.self (sym c.in-Some.ensures.value) (inr (source, last _ old c.tell_last.new.self c.tell_last.ensures))
+    let new = c.tell_last.new.self in
+    let feeds : old.stage ≡ Feeding =
+    sym (ap (λ (one : ClientState). one.stage) c.client.view_is) ∙ is_feeding c.client.inside.stage c.if-ne.ensures in
+    placed_left c.args.self.now.clients.slots c.args.key old new (sym c.in-Some.ensures.value)
+    (inr (
+      feeds,
+      c.args.answer,
+      subst (λ (answer : Option Outcome). HasParted answer old new) (sym c.in-Some-answer.is)
+          (subst (λ (text : List ℕ). (new ≡ with_stage Ending (told text old)) ⊎ (new ≡ cut_for_memory old)) c.answer.ensures c.tell_last.ensures),
+    ))
 
-pub returns-in-None-clause-passed : goal.returns-in-None-clause-passed
-returns-in-None-clause-passed g c =
+pub returns-in-None-clause-left : goal.returns-in-None-clause-left
+returns-in-None-clause-left g c =
     let old = c.in-Some.client.now in
-    let source : is_source old.stage ≡ true =
-    sym (ap (λ (one : ClientState). is_source one.stage) c.client.view_is) ∙ feeding c.client.inside.stage c.if-ne.ensures in
-    placed_passed c.args.self.now.clients.slots c.args.key old c.go_to.new.self (sym c.in-Some.ensures.value)
-    (inr (source, (ap (λ (one : ClientState). has_offered one.stage) c.go_to.ensures, ap (λ (one : ClientState). one.session) c.go_to.ensures)))
+    let feeds : old.stage ≡ Feeding =
+    sym (ap (λ (one : ClientState). one.stage) c.client.view_is) ∙ is_feeding c.client.inside.stage c.if-ne.ensures in
+    placed_left c.args.self.now.clients.slots c.args.key old c.go_to.new.self (sym c.in-Some.ensures.value)
+    (inr (feeds, c.args.answer, subst (λ (answer : Option Outcome). HasParted answer old c.go_to.new.self) (sym c.in-None.is) c.go_to.ensures))
 
 pub returns-in-Some-answer-clause-others : goal.returns-in-Some-answer-clause-others
 returns-in-Some-answer-clause-others g c other apart = others_placed c.args.self.now.clients.slots c.args.key c.tell_last.new.self other apart

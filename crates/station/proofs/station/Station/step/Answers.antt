@@ -1,16 +1,16 @@
-use Rattle.std.proofs.Common.{◌≡◌, ◌⊎◌, ℕ, Option, sym, ◌∙◌, ap, subst, inl, inr}
+use Rattle.std.proofs.Common.{◌≡◌, ℕ, Option, sym, ◌∙◌, ap, subst, inl, inr}
 use Rattle.serve_clients.specs.declared.clients.Clients.{Clients}
 use Rattle.station_hub.specs.declared.live_hub.LiveHub.{LiveHub}
 use Rattle.station_sources.specs.declared.air.OnAir.{OnAir}
 use Rattle.serve_hub.specs.Parts.{serials_in}
 use Rattle.station_hub.specs.Live.{RecordsLive}
 use Rattle.station.specs.Beginning.{HasReopened, run_in}
-use Rattle.station.specs.Clocks.{Clocks, HasReopenedAt, clocks_of, streams_in}
-use Rattle.station.specs.Passing.{ArePassed}
-use Rattle.station.specs.Stepping.{BeginsBy, FreesBy, GoesOnWithLoss, IsSucceededBy, RestsBy, TakesFromSource, with_done}
+use Rattle.station.specs.Clocks.{Clocks, HasReopenedAt, streams_in}
+use Rattle.station.specs.Kept.{AreTurned}
+use Rattle.station.specs.Stepping.{BeginsBy, FreesBy, GoesOnWithLoss, IsSucceededBy, RestsBy, TakesFromSource}
 use Rattle.station.specs.Succeeding.{HaveTurns}
 use Rattle.station.proofs.Counted.{done_counts}
-use Rattle.station.proofs.Passed.{all_then}
+use Rattle.station.proofs.Kept.{all_pass, kept_then_turned, turned_then}
 use Rattle.station.proofs.Succeeding.{still_by, turns_then}
 use Rattle.station.proofs.station.Station.step.Given.{Over}
 use Rattle.station.proofs.station.Station.step.Goals as goal
@@ -80,14 +80,19 @@ returns-clause-records g c =
     let records = c.step_once-done.ensures.records in
     subst (λ (live : LiveHub _). RecordsLive g.D.Disk c.args.self.now.live live) (sym (live_is g c)) records
 
-pub returns-clause-passed : goal.returns-clause-passed
-returns-clause-passed g c =
+pub returns-clause-kept : goal.returns-clause-kept
+returns-clause-kept g c =
+    let password = c.args.self.now.options.password in
     let old = c.args.self.now.clients.slots in
     let mid = c.step_once-done.new.self.clients in
-    all_then old mid.slots c.wake_feeder.new.self.clients.slots c.step_once-done.ensures.passed
-    (all_then mid.slots c.wake_listeners.new.self.clients.slots c.wake_feeder.new.self.clients.slots
-    (subst (λ (clients : Clients). ArePassed clients.slots c.wake_listeners.new.self.clients.slots) (clients_are g c) c.wake_listeners.ensures.passed)
-    c.wake_feeder.ensures.passed)
+    kept_then_turned password c.args.now old mid.slots c.wake_feeder.new.self.clients.slots c.step_once-done.ensures.kept
+    (turned_then mid.slots c.wake_listeners.new.self.clients.slots c.wake_feeder.new.self.clients.slots
+    (subst (λ (clients : Clients). AreTurned clients.slots c.wake_listeners.new.self.clients.slots) (clients_are g c) c.wake_listeners.ensures.turned)
+    c.wake_feeder.ensures.turned)
+
+pub returns-clause-passed : goal.returns-clause-passed
+returns-clause-passed g c =
+    all_pass c.args.self.now.options.password c.args.now c.args.self.now.clients.slots c.wake_feeder.new.self.clients.slots (returns-clause-kept g c)
 
 pub returns-clause-at_rest : goal.returns-clause-at_rest
 returns-clause-at_rest g c =

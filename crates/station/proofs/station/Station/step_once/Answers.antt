@@ -43,8 +43,8 @@ returns-then-is_failed-clause-resumes g c = c.reopen.ensures.resumes
 pub returns-then-is_failed-clause-records : goal.returns-then-is_failed-clause-records
 returns-then-is_failed-clause-records g c = c.reopen.ensures.records
 
-pub returns-then-is_failed-clause-passed : goal.returns-then-is_failed-clause-passed
-returns-then-is_failed-clause-passed g c = c.reopen.ensures.passed
+pub returns-then-is_failed-clause-kept : goal.returns-then-is_failed-clause-kept
+returns-then-is_failed-clause-kept g c = c.reopen.ensures.kept
 
 pub returns-then-is_failed-clause-failed : goal.returns-then-is_failed-clause-failed
 returns-then-is_failed-clause-failed g c failed = c.reopen.ensures.reopens
@@ -67,8 +67,8 @@ returns-then-not-waited-clause-nothing g c = c.step_air-done.ensures.nothing
 pub returns-then-not-waited-clause-records : goal.returns-then-not-waited-clause-records
 returns-then-not-waited-clause-records g c = c.step_air-done.ensures.records
 
-pub returns-then-not-waited-clause-passed : goal.returns-then-not-waited-clause-passed
-returns-then-not-waited-clause-passed g c = c.step_air-done.ensures.passed
+pub returns-then-not-waited-clause-kept : goal.returns-then-not-waited-clause-kept
+returns-then-not-waited-clause-kept g c = c.step_air-done.ensures.kept
 
 pub returns-then-not-waited-clause-noted : goal.returns-then-not-waited-clause-noted
 returns-then-not-waited-clause-noted g c air answered is reopened = absurd (c.step_air-done.ensures.goes_on answered reopened)
@@ -100,8 +100,8 @@ returns-else-not-waited-clause-nothing g c = c.step_air-done.ensures.nothing
 pub returns-else-not-waited-clause-records : goal.returns-else-not-waited-clause-records
 returns-else-not-waited-clause-records g c = c.step_air-done.ensures.records
 
-pub returns-else-not-waited-clause-passed : goal.returns-else-not-waited-clause-passed
-returns-else-not-waited-clause-passed g c = c.step_air-done.ensures.passed
+pub returns-else-not-waited-clause-kept : goal.returns-else-not-waited-clause-kept
+returns-else-not-waited-clause-kept g c = c.step_air-done.ensures.kept
 
 pub returns-else-not-waited-clause-noted : goal.returns-else-not-waited-clause-noted
 returns-else-not-waited-clause-noted g c air answered is reopened = absurd (c.step_air-done.ensures.goes_on answered reopened)

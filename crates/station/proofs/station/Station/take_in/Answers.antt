@@ -1,5 +1,6 @@
 use Rattle.std.proofs.Common.{rules, ◌≡◌, Option, Some, refl, ◌∙◌, ap, subst}
-use Rattle.serve_clients.specs.Client.{ClientState}
+use Rattle.serve_clients.specs.Client.{ClientState, with_line}
+use Rattle.serve_clients.specs.Line.{moved_on}
 use Rattle.slab.specs.Slab.{get}
 use Rattle.serve_clients.specs.declared.clients.Clients.{Clients}
 use Rattle.station.specs.Found.{placed, same_client}
@@ -35,7 +36,14 @@ returns-in_default-stage g c =
       begins = begins_none _ _ old.air;
       others = search rules;
       live = refl;
-      since = refl;
+      clocks = refl;
+      offered = λ client is stage. absurd (c.in_default-stage.not-Offering (ap (λ (one : ClientState). one.stage) c.client.view_is ∙ (likes client is).0 ∙ stage));
+      waits = λ client is stage. (
+        placed old.clients.slots c.args.key client new is
+            ∙ ap Some (c.notice.ensures
+            ∙ ap (λ (one : ClientState). with_line (moved_on one.line) one) (same_client c.in-Some.client.now client (c.in-Some.ensures.value ∙ is))),
+        refl,
+      );
     }
 
 pub returns-in-Offering-clause-offers : goal.returns-in-Offering-clause-offers

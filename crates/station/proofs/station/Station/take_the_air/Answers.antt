@@ -1,4 +1,4 @@
-use Rattle.std.proofs.Common.{◌≡◌, ◌⊎◌, ℕ, Some, List, length, drop, sym, ◌∙◌, ap, subst, inl, inr}
+use Rattle.std.proofs.Common.{◌≡◌, ◌⊎◌, ℕ, Some, List, length, drop, ◌∙◌, ap, subst, inl, inr}
 use Rattle.slab.specs.Slab.{get}
 use Rattle.serve_clients.specs.Client.{ClientState, cut_for_memory}
 use Rattle.station_sources.specs.Air.{HoldsMore, IsShort}

@@ -1,6 +1,6 @@
 use Rattle.std.proofs.Common.{◌≡◌, true, false, sym, ◌∙◌}
 use Rattle.station.proofs.Succeeding.{woken_one}
-use Rattle.station.proofs.Passed.{woken_one as woken_one_passed}
+use Rattle.station.proofs.Kept.{woken_one as woken_one_turned}
 use Rattle.station.proofs.station.Station.wake_feeder.Goals as goal
 
 false_true : false ≡ true → ⊥
@@ -11,7 +11,7 @@ returns-then-reads-clause-turns g c =
     woken_one c.args.self.now.clients c.wake.new.self.clients c.in-Some-Peer.key (λ none. false_true (sym (c.reads.ensures.none none) ∙ c.if-reads.true))
     c.wake.ensures.turn c.wake.ensures.others
 
-pub returns-then-reads-clause-passed : goal.returns-then-reads-clause-passed
-returns-then-reads-clause-passed g c =
-    woken_one_passed c.args.self.now.clients c.wake.new.self.clients c.in-Some-Peer.key (λ none. false_true (sym (c.reads.ensures.none none) ∙ c.if-reads.true))
+pub returns-then-reads-clause-turned : goal.returns-then-reads-clause-turned
+returns-then-reads-clause-turned g c =
+    woken_one_turned c.args.self.now.clients c.wake.new.self.clients c.in-Some-Peer.key (λ none. false_true (sym (c.reads.ensures.none none) ∙ c.if-reads.true))
     c.wake.ensures.turn c.wake.ensures.others
