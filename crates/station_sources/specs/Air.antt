@@ -67,23 +67,37 @@ parting_answer lost air = parting_in air.foreign (lost || air.lost) air.complete
 abbrev pub noted : Taken → OnAir → OnAir
 noted taken air = record air { lost = is_some taken.answered.refused || air.lost }
 
+-- What was found of a source, and what was noted, is as it was: who sends it, how many bytes are known to be of the
+-- stream, whether the end of its body was found, and whether something of it is lost.
+pub record KeepsNotes (old new : OnAir) : Type 0 where
+  pub feeder : new.feeder ≡ old.feeder
+  pub decoded : new.decoded ≡ old.decoded
+  pub complete : new.complete ≡ old.complete
+  pub lost : new.lost ≡ old.lost
+  pub searched : (new.has_page ≡ old.has_page) × (new.foreign ≡ old.foreign)
+
 -- What has come of the source and isn't taken yet is followed by these bytes, and is looked at again. Nothing else is
--- another: neither its stream nor its body, nor what was noted of want of memory.
+-- another: neither its stream nor its body, nor what was noted of it; and more may come exactly if it might before.
 pub record HoldsMore (bytes : List ℕ) (old new : OnAir) : Type 0 where
   pub kept : drop new.at new.pending.items ≡ drop old.at old.pending.items ++ bytes
   pub looked_at : new.starved ≡ false
   pub short : new.short ≡ old.short
+  pub ended : new.ended ≡ old.ended
   pub import : new.import ≡ old.import
   pub body : new.body ≡ old.body
+  pub rest : KeepsNotes old new
 
--- There was no room for this many bytes, which is noted, and no further byte comes. What came before them is kept.
+-- There was no room for this many bytes, which is noted, and no further byte comes. What came before them is kept, and
+-- is looked at again. Nothing else is another.
 pub record IsShort (count : ℕ) (old new : OnAir) : Type 0 where
   pub full : vec_capacity old.pending < vec_len old.pending - old.at + count
   pub kept : drop new.at new.pending.items ≡ drop old.at old.pending.items
+  pub looked_at : new.starved ≡ false
   pub noted : new.short ≡ true
   pub ended : new.ended ≡ true
   pub import : new.import ≡ old.import
   pub body : new.body ≡ old.body
+  pub rest : KeepsNotes old new
 
 -- ---- a stream that isn't Ogg
 -- No page was found in the first bytes of its stream, which were as many as these or more: it isn't Ogg. This one sends it.
