@@ -2,9 +2,11 @@
 use Rattle.std.proofs.Common.{◌≡◌, ◌≢◌, ℕ, Option, Result, Ok, Err, subst}
 use Rattle.ogg_page.specs.Reading.{page_at}
 use Rattle.ogg_page.specs.declared.fault.PageFault.TheVariants.{Short}
+use Rattle.feed_replies.specs.declared.reply.Reply.{Reply}
 use Rattle.import_mend.specs.declared.mend.Mend.{Mend}
 use Rattle.import_record.specs.declared.intake.Taken.{Taken}
 use Rattle.import_record.specs.Pushing.{NeedsNone}
+use Rattle.import_record.specs.Reading.{IsDue}
 use Rattle.import_record.specs.declared.fault.RecordFault.{RecordFault}
 use Rattle.import_record.specs.declared.reading.ImportRun.{ImportRun}
 use Rattle.import_record.specs.declared.reading.Step.{Step}
@@ -18,6 +20,11 @@ needs_none (Flushed reply) run known = tt
 needs_none PassedOver run known = known
 needs_none (Page offset junk taken) run known = known
 needs_none (EndedAt junk) run known = known
+
+-- what waits is flushed only if it isn't known what comes next
+pub flush_waits : (step : Step) (reply : Reply) → step ≡ Flushed reply → (held : ℕ) (old new : ImportRun) → IsDue step held old.input.pages new.input.pages
+    → page_at old.input.pages.unread ≡ Err Short
+flush_waits step reply is held old new due = (subst (λ (one : Step). IsDue one held old.input.pages new.input.pages) is due).1
 
 abbrev ended : ℕ → Option Mend → Taken → Result Took RecordFault
 ended offset junk taken = Ok (Ended offset junk taken)

@@ -1,18 +1,18 @@
 -- What is done with a source adds up to an import.
-use Rattle.std.proofs.Common.{◌≡◌, ◌⊎◌, ℕ, zero, suc, ◌+◌, ◌-◌, ◌≤◌, true, Option, Some, None, List, [], ◌∷◌, ◌++◌, length, drop, take, slice_range, refl, sym, ◌∙◌, ap, subst, inl, inr, append_assoc, append-nil, arith}
+use Rattle.std.proofs.Common.{◌≡◌, ◌⊎◌, ℕ, zero, suc, ◌+◌, ◌-◌, ◌≤◌, true, Option, None, List, [], ◌∷◌, ◌++◌, length, drop, take, slice_range, refl, sym, ◌∙◌, ap, subst, inl, inr, append_assoc, append-nil, arith}
 use Rattle.std.specs.Prelude.{nat_le}
-use Rattle.std.proofs.lemmas.List.{drop-drop, length-take, length-drop, take-append-drop, take-take}
+use Rattle.std.proofs.lemmas.List.{drop-drop, length-take, take-append-drop, take-take}
 use Rattle.feed_records.specs.declared.item.Record.{Record}
 use Rattle.feed_replies.specs.declared.reply.Reply.{Reply}
-use Rattle.import_record.specs.Pushing.{Call, Came, Drains, Feeds, Imports, InputState, IsStepped, Stepped, bytes_in, events_in}
+use Rattle.import_record.specs.Pushing.{Call, Came, Drains, Feeds, Imports, InputState, Stepped, bytes_in, events_in}
 use Rattle.import_record.specs.Whole.{Event}
 use Rattle.import_record.specs.declared.reading.ImportRun.{ImportRun}
 use Rattle.import_record.specs.declared.reading.Step.{Step}
 use Rattle.import_record.specs.declared.reading.Step.TheVariants.{Flushed, PassedOver, Page, Ended}
 use Rattle.serve_sources.specs.declared.body.Body.{Body}
-use Rattle.station_sources.specs.Air.{GoesOn, HoldsMore, KeepsBytes, look_of}
-use Rattle.station_sources.specs.Faring.{HasDecoded, HasDecodedIn, Look, look}
-use Rattle.station_sources.specs.Taking.{PassesOn, input_of}
+use Rattle.station_sources.specs.Air.{GoesOn, look_of}
+use Rattle.station_sources.specs.Faring.{HasDecoded, HasDecodedIn, Look}
+use Rattle.station_sources.specs.Taking.{input_of}
 use Rattle.station_sources.specs.declared.air.OnAir.{OnAir}
 use Rattle.station_sources.specs.Importing.{Fed, Finishes, Move, Moves, Noted, Took, WentOn, fed_in, rest_of}
 
@@ -57,7 +57,7 @@ module _ {S : Type 0} (answers : S → Record → Reply → List ℕ → S → T
       × (old.body ≡ None → (rest_of old ++ fed ≡ bytes_in calls ++ rest_of new) × (new.body ≡ None))
 
   went_on : (fed : List ℕ) (old next new : OnAir) (before after : S) → GoesOn old next → SoFar fed next new before after → SoFar fed old new before after
-  went_on fed old next new before after (inl (none_decoded, import, decoded, kept)) (calls, feeds, bytes_are) = (
+  went_on fed old next new before after (inl (none_decoded, unseen, import, decoded, kept)) (calls, feeds, bytes_are) = (
     calls,
     subst (λ (run : ImportRun). Feeds answers calls (input_of run) (input_of new.import) before after) import feeds,
     λ none.

@@ -114,10 +114,11 @@ look_of air = look air.body air.at air.decoded air.starved air.ended air.complet
 abbrev pub HasAllTaken : OnAir → Type 0
 HasAllTaken air = IsOver air.ended air.starved air.decoded
 
--- The next bytes of the stream were looked for among those that came. Or the next ones that were found came to it.
+-- The next bytes of the stream were looked for among those that came, which weren't looked at before. Or the next ones
+-- that were found came to it.
 abbrev pub GoesOn : OnAir → OnAir → Type 0
 GoesOn old new =
-    ((old.decoded ≡ 0) × (new.import ≡ old.import) × HasDecoded (drop old.at old.pending.items) (look_of old) (look_of new)
+    ((old.decoded ≡ 0) × (old.starved ≡ false) × (new.import ≡ old.import) × HasDecoded (drop old.at old.pending.items) (look_of old) (look_of new)
     × ((new.pending ≡ old.pending) ⊎ ((new.pending.items ≡ []) × (new.starved ≡ true) × (new.ended ≡ true))))
     ⊎ ((count : ℕ) × PassesOn (slice_range old.pending.items old.at (old.at + old.decoded)) count old.import new.import
     × (look_of new ≡ look old.body (old.at + count) (old.decoded - count) old.starved old.ended old.complete)

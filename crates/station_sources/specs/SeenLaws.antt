@@ -92,6 +92,7 @@ module _ {S T : Type 0} (answers : S → Record → Reply → List ℕ → S →
       → TakesStep others Over step old new (seen before) (seen after)
   takes_step_seen Over step old new before after takes = record {
     needs = takes.needs;
+    flushes = takes.flushes;
     stepped = stepped_seen [] step _ _ _ before after takes.stepped;
   }
 

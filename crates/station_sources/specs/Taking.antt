@@ -8,7 +8,7 @@ use Rattle.import_record.specs.Steps.{Ends, state_of}
 use Rattle.import_record.specs.declared.intake.Taken.{Taken}
 use Rattle.import_record.specs.declared.reading.ImportRun.{ImportRun}
 use Rattle.import_record.specs.declared.reading.Step.{Step}
-use Rattle.import_record.specs.declared.reading.Step.TheVariants.{Ended, Page}
+use Rattle.import_record.specs.declared.reading.Step.TheVariants.{Flushed, Ended, Page}
 
 -- the stream as import_record sees it
 abbrev pub input_of : ImportRun → InputState
@@ -46,9 +46,11 @@ abbrev pub is_foreign : Bool → ℕ → Bool
 is_foreign has_page passed = not has_page && nat_le most_before passed
 
 module _ {S : Type 0} (answers : S → Record → Reply → List ℕ → S → Type 0) where
-  -- A step was taken of what had come to the stream. It needed no more bytes, or no more come.
+  -- A step was taken of what had come to the stream. It needed no more bytes, or no more come. What waits is flushed
+  -- only if no more come.
   pub record TakesStep (Over : Type 0) (step : Step) (old new : ImportRun) (before after : S) : Type 0 where
     pub needs : NeedsNone step old.input.pages ⊎ Over
+    pub flushes : (reply : Reply) → step ≡ Flushed reply → Over
     pub stepped : IsStepped answers [] step new.input.pages.lent (input_of old) (input_of new) before after
 
   -- A step found the end of the stream, at this offset, and what was open of it was ended.

@@ -4,6 +4,7 @@ ghost use Rattle.station_sources.specs.Faring.{HasDecoded, look, stopped};
 ghost use Rattle.station_sources.specs.Taking.{HasEndedBy, IsOver, PassesOn, TakesEnd, TakesStep, input_of, is_foreign, is_page, loses};
 ghost use Rattle.import_mend.specs.declared.mend.Mend.{Mend as MendOf};
 ghost use Rattle.import_record.specs.Pushing.{IsStepped};
+ghost use Rattle.import_record.specs.Reading.{IsDue};
 ghost use Rattle.import_record.specs.Steps.{StopsBy};
 ghost use Rattle.import_record.specs.declared.intake.Taken.{Taken as TakenOf};
 ghost use Rattle.import_record.specs.declared.reading.Step.{Step as StepOf};
@@ -153,7 +154,7 @@ impl OnAir {
         ensures ends { (before : T.State) (offset : ℕ) (junk : Option MendOf) (taken : TakenOf) → T.is_in before runner.old
             → result ≡ Ok (Took.Ended offset junk taken) → (after : T.State) × T.is_in after runner.new
             × TakesEnd T.answers (IsOver self.old.ended self.old.starved self.old.decoded) offset junk taken self.old.import self.new.import before after }
-        ensures bytes { result ≡ Ok Took.Bytes → (runner.new ≡ runner.old) × (((self.old.decoded ≡ 0) × (self.new.import ≡ self.old.import)
+        ensures bytes { result ≡ Ok Took.Bytes → (runner.new ≡ runner.old) × (((self.old.decoded ≡ 0) × (self.old.starved ≡ false) × (self.new.import ≡ self.old.import)
             × HasDecoded (drop self.old.at self.old.pending.items)
             (look self.old.body self.old.at self.old.decoded self.old.starved self.old.ended self.old.complete)
             (look self.new.body self.new.at self.new.decoded self.new.starved self.new.ended self.new.complete)
@@ -171,6 +172,9 @@ impl OnAir {
             × (runner.new ≡ runner.old) × (self.new ≡ record self.old { foreign = true }) }
         ensures each { is_foreign self.old.has_page self.old.import.input.pages.offset ≡ true
             → result ≡ Ok (Took.Foreign self.old.import.input.pages.offset) }
+        // A step is taken when import_record says that it is due: what waits is flushed only if something does.
+        ensures due { (before : T.State) (step : StepOf) → T.is_in before runner.old → result ≡ Ok (Took.Stepped step)
+            → IsDue step (T.held_in before) self.old.import.input.pages self.new.import.input.pages }
         // It does nothing only if more bytes must come.
         ensures nothing { result ≡ Ok Took.Nothing → (runner.new ≡ runner.old) × (self.new ≡ self.old) }
         ensures prompt { result ≡ Ok Took.Nothing → (self.old.ended ≡ false) × (self.old.starved ≡ true) × (self.old.decoded ≡ 0)
@@ -298,6 +302,8 @@ impl OnAir {
             × HasEndedBy T.answers offset junk taken self.old.import self.new.import before after }
         ensures stops { (before : T.State) → T.is_in before runner.old → IfErr result (λ fault. (after : T.State) × T.is_in after runner.new
             × StopsBy T.answers fault before after None None) }
+        ensures due { (before : T.State) (step : StepOf) → T.is_in before runner.old → result ≡ Ok (Took.Stepped step)
+            → IsDue step (T.held_in before) self.old.import.input.pages self.new.import.input.pages }
         ensures other { (result ≢ Ok Took.Bytes) × (result ≢ Ok Took.Nothing) }
         ensures found { (passed : ℕ) → result ≢ Ok (Took.Foreign passed) }
         ensures lost { (offset : ℕ) (junk : Option MendOf) (taken : TakenOf) → result ≡ Ok (Took.Ended offset junk taken)
