@@ -17,7 +17,7 @@ ghost use Rattle.serve_machine.specs.Calls.{Steps, found_by};
 ghost use Rattle.serve_machine.specs.Hub.{Close, HubState, Reopen};
 ghost use Rattle.serve_machine.specs.declared.fault.HubFault.{HubFault as HubFaultOf};
 ghost use Rattle.station_hub.specs.Keeping.{KeepsRecorded};
-ghost use Rattle.station_hub.specs.Ending.{first_of, refusal_in, reply_in};
+ghost use Rattle.station_hub.specs.Ending.{first_of, first_open, refusal_in, reply_in};
 ghost use Rattle.station_hub.specs.Live.{BeginsOver, RecordsLive};
 ghost use Rattle.station_hub.specs.Places.{answered_by, committed_to, reopened_to};
 ghost use Rattle.station_hub.specs.Tracking.{IsOpenIn, IsTold, KeepsPlaces};
@@ -256,7 +256,9 @@ fn first_of(one: Option<Refusal>, other: Option<Refusal>) -> Refusal
 }
 
 /// The serial of the first stream that hasn't ended.
-fn first_open(streams: &[StreamState]) -> Option<u32> {
+fn first_open(streams: &[StreamState]) -> Option<u32>
+    ensures { result ≡ first_open streams.now }
+{
     let stream = streams.iter().find(|stream| !stream.ended)?;
     Some(stream.serial)
 }
