@@ -1,6 +1,7 @@
 mod Going
 mod Keeping
 mod Lasting
+mod Losing
 mod Marked
 mod Owed
 mod Tracked

@@ -10,6 +10,8 @@ use Rattle.disk_model.specs.declared.disk.Disk.{Ghosts as DiskModel}
 use Rattle.serve_hub.specs.Images.{Fails, IfFile}
 use Rattle.serve_hub.specs.Parts.{HasNoPlace, HubParts}
 use Rattle.serve_hub.specs.Showing.{Shows}
+use Rattle.serve_sessions.specs.Serving.{LacksRoomIn}
+use Rattle.station_hub.specs.Giving.{LosesFile, LosesSession}
 use Rattle.station_hub.specs.Marking.{Start}
 use Rattle.station_hub.specs.Places.{PlacesState}
 use Rattle.station_hub.specs.Tracking.{Tracks}
@@ -57,6 +59,19 @@ pub record IsConnected {D : Type 0} (shows : HubParts D → HubState → Type 0)
 -- There is no place for one more session, or no number left for it: the connection is cut.
 abbrev pub HasNoSession : {D : Type 0} → HubParts D → HubParts D → ClientState → ClientState → Type 0
 HasNoSession old new before after = HasNoPlace old × (new ≡ old) × (after ≡ cut before)
+
+-- Why a connection whose session is to take these bytes is cut: there was no room for them, or they complete the head;
+-- or its session is lost.
+abbrev pub CannotReceive : {D : Type 0} → DiskModel D → ℕ → List ℕ → HubState → HubParts D → HubParts D → Type 0
+CannotReceive model id bytes machine old new = LacksRoomIn id old.sessions bytes ⊎ LosesSession model id machine old new
+
+-- Why a connection that the hub is to answer is cut: there is no place for it; there is no file, or its disk has
+-- failed; or there was no room for the head in the session that it was given, or the head is complete.
+abbrev pub CannotConnect : {D : Type 0} → DiskModel D → List ℕ → HubParts D → HubParts D → Type 0
+CannotConnect {D} model head old new =
+    HasNoPlace old ⊎ (LosesFile model old new
+    ⊎ ((id : ℕ) × (between : HubParts D) × Steps (Shows model) old between (λ machine. Connect (Ok id))
+    × LacksRoomIn id between.sessions head))
 
 -- what has come of the connection's head isn't kept any longer
 abbrev pub headless : ClientState → ClientState

@@ -61,6 +61,10 @@ has_got_all end client = is_hearing client.stage && (nat_le (length client.unsen
 abbrev pub LosesFile : {D : Type 0} → DiskModel D → HubParts D → HubParts D → Type 0
 LosesFile model old new = (old.file ≡ None) ⊎ IfFile (Fails model) old.file new.file
 
+-- there is no session with this number, or no file, or its disk has failed
+abbrev pub LosesSession : {D : Type 0} → DiskModel D → ℕ → HubState → HubParts D → HubParts D → Type 0
+LosesSession model id machine old new = (phase_of machine id ≡ None) ⊎ LosesFile model old new
+
 -- ---- what a call gives
 -- So many bytes of the buffer are the next ones for a connection, which is this one after that: those that couldn't be
 -- written before; if there are none, the next ones of its response, or of what it hears; and else there is nothing.

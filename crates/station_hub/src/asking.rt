@@ -2,7 +2,7 @@
 ghost use Rattle.std.specs.Prelude.{◌≡◌, ◌⊎◌, ◌++◌, ℕ, None, Some, IfOk, IfErr, Result};
 ghost use Rattle.serve_live.specs.Boundaries.{place_to_join};
 ghost use Rattle.serve_live.specs.Listening.{ListenerState};
-ghost use Rattle.serve_clients.specs.declared.client.Stage.TheVariants.{Hearing as HearingOf};
+ghost use Rattle.serve_clients.specs.declared.client.Stage.TheVariants.{Cut as CutOf, Hearing as HearingOf};
 ghost use Rattle.serve_hub.specs.Images.{IfFile, Reads};
 ghost use Rattle.serve_hub.specs.Listening.{KeepsMachine};
 ghost use Rattle.serve_hub.specs.Showing.{Shows};
@@ -10,7 +10,7 @@ ghost use Rattle.serve_machine.specs.Calls.{Steps};
 ghost use Rattle.serve_machine.specs.Hub.{HubState, Receive};
 ghost use Rattle.serve_machine.specs.declared.answers.Progress.{Progress as ProgressOf};
 ghost use Rattle.serve_machine.specs.declared.fault.HubFault.{HubFault as HubFaultOf};
-ghost use Rattle.station_hub.specs.Asking.{CannotHear, HasAsked, HasNoSession, IsConnected, IsCutFor, Listens, cut_after, stage_after};
+ghost use Rattle.station_hub.specs.Asking.{CannotConnect, CannotHear, CannotReceive, HasAsked, HasNoSession, IsConnected, IsCutFor, Listens, cut_after, stage_after};
 ghost use Rattle.station_hub.specs.Keeping.{KeepsRecorded};
 ghost use Rattle.station_hub.specs.Marking.{Start};
 ghost use Rattle.station_hub.specs.Tracking.{JoinsAt, Tracks};
@@ -53,6 +53,9 @@ impl<D: Disk + Drop> LiveHub<D> {
     pub fn connect(&mut self, client: &mut Client)
         ensures connects { IsConnected (Shows D.Disk) self.old.hub self.new.hub client.old client.new
             ⊎ HasNoSession self.old.hub self.new.hub client.old client.new }
+        // It is cut only for that, or if its session can't take the head.
+        ensures cause { (machine : HubState) → Shows D.Disk self.old.hub machine → client.new.stage ≡ CutOf
+            → CannotConnect D.Disk client.old.head self.old.hub self.new.hub }
         ensures disk { (self.new.hub.file ≡ self.old.hub.file)
             ⊎ IfFile (Reads D.Disk) self.old.hub.file self.new.hub.file }
         ensures recorded { KeepsRecorded D.Disk self.old.hub self.new.hub }
@@ -74,6 +77,9 @@ impl<D: Disk + Drop> LiveHub<D> {
         ensures read { (id : ℕ) → client.old.session ≡ Some id → (progress : Result ProgressOf HubFaultOf)
             × Steps (Shows D.Disk) self.old.hub self.new.hub (λ machine. Receive id bytes.now progress)
             × (client.new ≡ with_stage (stage_after progress) client.old) }
+        // The connection is cut only if its session can't take them.
+        ensures cause { (id : ℕ) (machine : HubState) → client.old.session ≡ Some id → Shows D.Disk self.old.hub machine
+            → client.new.stage ≡ CutOf → CannotReceive D.Disk id bytes.now machine self.old.hub self.new.hub }
         ensures unread { client.old.session ≡ None → (self.new.hub ≡ self.old.hub) × (client.new ≡ client.old) }
         ensures disk { (self.new.hub.file ≡ self.old.hub.file)
             ⊎ IfFile (Reads D.Disk) self.old.hub.file self.new.hub.file }
@@ -90,6 +96,8 @@ impl<D: Disk + Drop> LiveHub<D> {
         ensures read { (progress : Result ProgressOf HubFaultOf)
             × Steps (Shows D.Disk) self.old.hub self.new.hub (λ machine. Receive id bytes.now progress)
             × (client.new ≡ with_stage (stage_after progress) client.old) }
+        ensures cause { (machine : HubState) → Shows D.Disk self.old.hub machine → client.new.stage ≡ CutOf
+            → CannotReceive D.Disk id bytes.now machine self.old.hub self.new.hub }
         ensures disk { (self.new.hub.file ≡ self.old.hub.file)
             ⊎ IfFile (Reads D.Disk) self.old.hub.file self.new.hub.file }
         ensures recorded { KeepsRecorded D.Disk self.old.hub self.new.hub }

@@ -10,7 +10,7 @@ ghost use Rattle.serve_hub.specs.Images.{IfFile, Reads};
 ghost use Rattle.serve_hub.specs.Listening.{KeepsMachine};
 ghost use Rattle.serve_hub.specs.Showing.{Shows};
 ghost use Rattle.station_hub.specs.Keeping.{KeepsRecorded};
-ghost use Rattle.station_hub.specs.Giving.{HasHeard, HasPulled, LosesFile, has_got_all, has_heard_by};
+ghost use Rattle.station_hub.specs.Giving.{HasHeard, HasPulled, LosesFile, LosesSession, has_got_all, has_heard_by};
 ghost use Rattle.serve_clients.specs.declared.client.Stage.TheVariants.{Cut as CutOf, Ending as EndingOf, Hearing as HearingOf, Sending as SendingOf};
 
 use crate::live_hub::LiveHub;
@@ -36,6 +36,9 @@ fn pull<D: Disk + Drop>(hub: &mut Hub<D>, id: u64, client: &mut Client, buffer: 
     ensures pulled { (answer : Result GivenOf HubFaultOf)
         × Steps (Shows D.Disk) hub.old hub.new (λ after. Pull id (length buffer.old) answer)
         × HasPulled answer client.old result buffer.new client.new }
+    // The connection is cut only if its session is lost.
+    ensures cause { (machine : HubState) → Shows D.Disk hub.old machine → client.new.stage ≡ CutOf
+        → LosesSession D.Disk id machine hub.old hub.new }
     ensures rest { client.new ≡ record client.old { stage = client.new.stage } }
     ensures disk { (hub.new.file ≡ hub.old.file) ⊎ IfFile (Reads D.Disk) hub.old.file hub.new.file }
     ensures within { result ≤ length buffer.new }
@@ -115,6 +118,10 @@ impl<D: Disk + Drop> LiveHub<D> {
             → (answer : Result GivenOf HubFaultOf)
             × Steps (Shows D.Disk) self.old.hub self.new.hub (λ after. Pull id (length buffer.old) answer)
             × HasPulled answer client.old result buffer.new client.new }
+        // A connection is cut only if its session is lost.
+        ensures cause { (id : ℕ) (machine : HubState) → client.old.unsent ≡ [] → client.old.stage ≡ SendingOf
+            → client.old.session ≡ Some id → Shows D.Disk self.old.hub machine → client.new.stage ≡ CutOf
+            → LosesSession D.Disk id machine self.old.hub self.new.hub }
         ensures hears { (machine : HubState) (moment : Moment) (given : List ℕ) (listener : ListenerState)
             → client.old.unsent ≡ [] → client.old.stage ≡ HearingOf
             → Shows D.Disk self.old.hub machine → client.old.listener ≡ Some listener

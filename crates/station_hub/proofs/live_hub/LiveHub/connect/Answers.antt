@@ -1,4 +1,4 @@
-use Rattle.std.proofs.Common.{inl, inr, refl, ap, ◌∙◌, subst, ℕ, List, Some, Ok, Err, []}
+use Rattle.std.proofs.Common.{inl, inr, refl, sym, ap, ◌∙◌, subst, ℕ, List, Some, Ok, Err, []}
 use Rattle.serve_machine.specs.Calls.{Steps}
 use Rattle.serve_machine.specs.Hub.{Connect, Receive}
 use Rattle.serve_hub.specs.Images.{IfFile, Reads}
@@ -6,6 +6,8 @@ use Rattle.serve_hub.specs.Parts.{HubParts}
 use Rattle.serve_hub.specs.Showing.{Shows}
 use Rattle.serve_clients.specs.Client.{ClientState}
 use Rattle.serve_clients.specs.declared.client.Stage.{Stage}
+use Rattle.station_hub.specs.Asking.{CannotConnect}
+use Rattle.station_hub.proofs.Losing.{cannot_connect, cannot_receive}
 use Rattle.station_hub.proofs.Keeping.{both, by_session, unchanged}
 use Rattle.station_hub.proofs.live_hub.LiveHub.connect.Goals as goal
 
@@ -39,3 +41,19 @@ returns-in-Err-clause-disk g c = inl (ap (λ (hub : HubParts _). hub.file) c.in-
 pub returns-in-Ok-clause-disk : goal.returns-in-Ok-clause-disk
 returns-in-Ok-clause-disk g c =
     inr (subst (λ file. IfFile (Reads g.D.Disk) file c.receive-progress.new.self.file) (ap (λ (hub : HubParts _). hub.file) c.connect.ensures.parts) c.receive-progress.ensures.disk)
+
+pub returns-in-Ok-clause-cause : goal.returns-in-Ok-clause-cause
+returns-in-Ok-clause-cause g c machine shows cuts =
+    let (mid, shown, step) = c.in-Ok.ensures.step machine shows in
+    let received = c.receive-progress.ensures in
+    let between = c.connect.new.self in
+    let new = c.receive-progress.new.self in
+    subst (λ (head : List ℕ). CannotConnect g.D.Disk head c.args.self.now.hub new) (c.as_slice.ensures.value ∙ ap (λ (client : ClientState). client.head) c.client.view_is)
+    (cannot_connect g.D.Disk c.in-Ok.id c.as_slice.result.now machine mid c.args.self.now.hub between new c.in-Ok.ensures.step step
+    (ap (λ (hub : HubParts _). hub.file) c.connect.ensures.parts)
+    (cannot_receive g.D.Disk c.in-Ok.id c.as_slice.result.now c.receive-progress.result mid between new received.step shown
+    received.memory received.not_full (λ e. (received.no_file.0 e).1) (λ e. received.cause e mid shown)
+    (sym (ap (λ (client : ClientState). client.stage) c.connected.ensures ∙ c.stage_after.ensures) ∙ cuts)))
+
+pub returns-in-Err-clause-cause : goal.returns-in-Err-clause-cause
+returns-in-Err-clause-cause g c machine shows cuts = inl (c.connect.ensures.full.0 (c.in-Err.is ∙ ap Err c.in-Err.ensures.refused.0))

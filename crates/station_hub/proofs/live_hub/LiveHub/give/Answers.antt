@@ -1,7 +1,12 @@
-use Rattle.std.proofs.Common.{length, refl, inl}
+use Rattle.std.proofs.Common.{◌≡◌, ℕ, Some, length, refl, sym, ◌∙◌, ap, subst, inl}
+use Rattle.serve_clients.specs.Client.{ClientState}
 use Rattle.serve_machine.specs.Hub.{Pull}
+use Rattle.station_hub.specs.Giving.{LosesSession}
 use Rattle.station_hub.proofs.Keeping.{as_seen, by_session, unchanged}
 use Rattle.station_hub.proofs.live_hub.LiveHub.give.Goals as goal
+
+same_id : (one other : ℕ) → Some one ≡ Some other → one ≡ other
+same_id one other e = cc
 
 pub returns-in-Hearing-default-clause-hears : goal.returns-in-Hearing-default-clause-hears
 returns-in-Hearing-default-clause-hears g c machine moment given listener none stage shows is hearing =
@@ -27,6 +32,12 @@ returns-in-Sending-Some-clause-recorded g c =
     let (answer, steps, pulled) = c.pull.ensures.pulled in
     by_session g.D.Disk c.calls_move_their_session.ensures.file c.args.self.now.hub c.pull.new.hub (Pull c.in-Sending-Some.id (length c.args.buffer.now) answer)
     c.in-Sending-Some.id refl steps
+
+pub returns-in-Sending-Some-clause-cause : goal.returns-in-Sending-Some-clause-cause
+returns-in-Sending-Some-clause-cause g c id machine none stage session shows cuts =
+    let own = ap (λ (client : ClientState). client.session) c.client.view_is in
+    subst (λ (one : ℕ). LosesSession g.D.Disk one machine c.args.self.now.hub c.pull.new.hub)
+    (same_id c.in-Sending-Some.id id (sym c.in-Sending-Some.is-1 ∙ own ∙ session)) (c.pull.ensures.cause machine shows cuts)
 
 pub returns-in-Sending-Some-clause-disk : goal.returns-in-Sending-Some-clause-disk
 returns-in-Sending-Some-clause-disk g c = c.pull.ensures.disk
