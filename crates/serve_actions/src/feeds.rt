@@ -1,5 +1,5 @@
 //! The feed that is recorded while its file is served.
-ghost use Rattle.std.specs.Prelude.{◌≡◌, IfSome, Some};
+ghost use Rattle.std.specs.Prelude.{◌≡◌, IfSome, Some, None};
 ghost use Rattle.serve_actions.specs.Ended.{fault_in, is_lost};
 
 use crate::connections::first;
@@ -39,6 +39,7 @@ pub fn record_rest<D: Disk + Drop, R: Read, W: Write + Drop>(
     met: Option<Fault>,
 ) -> Option<Fault>
     ensures first { IfSome met (λ fault. result ≡ Some fault) }
+    ensures later { met ≡ None → result ≡ fault_in feed.new.ended }
 {
     for _ in 0..MOST_STEPS {
         if feed.ended().is_some() {
