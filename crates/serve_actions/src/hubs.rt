@@ -1,5 +1,7 @@
 //! Hubs over files that are served: they are opened, and closed.
 ghost use Rattle.std.specs.Prelude.{◌≡◌, ◌↔◌, ◌≤◌, IfErr, IfOk, IfSome, IsSome, Some, None, Ok, Err, true, false};
+ghost use Rattle.disk_model.specs.Image.{IsSettled};
+ghost use Rattle.file_recorder.specs.Recorder.{committed};
 
 use disk_model::{Disk, FileDisk, FileMode};
 use fault_lines::Fault;
@@ -79,6 +81,11 @@ fn disk_after<D: Disk + Drop>(
     ensures lost { hub.file ≡ None → result ≡ (served, None) }
     ensures left { IfErr served (λ fault. IfSome hub.file (λ recorder. result ≡ (Err fault, Some recorder.file.disk))) }
     ensures unasked { seal ≡ false → result.0 ≡ served × IfSome hub.file (λ recorder. result.1 ≡ Some recorder.file.disk) }
+    ensures failed { served ≡ Ok tt → seal ≡ true → IfSome hub.file (λ recorder. recorder.file.failed ≡ true
+        → result ≡ (Err Fault.Failed, None)) }
+    ensures asked { served ≡ Ok tt → seal ≡ true → result.0 ≡ Ok tt → IfSome hub.file (λ recorder.
+        (disk : D) × (result.1 ≡ Some disk) × (D.is_honest recorder.file.disk
+        → IsSettled (D.state disk) × ((D.state disk).contents ≡ committed D.state recorder))) }
 {
     match hub.into_recorder() {
         Ok(recorder) => seal_after(recorder, served, seal),
