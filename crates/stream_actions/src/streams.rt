@@ -1,9 +1,11 @@
 //! The commands that read a feed from standard input.
-ghost use Rattle.std.specs.Prelude.{◌≡◌, ◌||◌, IfOk, IfErr, Ok, Err, true, false};
+ghost use Rattle.std.specs.Prelude.{◌≡◌, ◌||◌, IfOk, IfErr, OnErr, Ok, Err, None, Some, true, false};
+ghost use Rattle.disk_model.specs.Image.{IsSettled};
 ghost use Rattle.fault_lines.specs.Fault.{fault_of_run};
 ghost use Rattle.fault_lines.specs.declared.fault.Fault.{Fault as FaultOf};
+ghost use Rattle.file_recorder.specs.Recorder.{committed};
 
-use disk_model::{FileDisk, FileMode};
+use disk_model::{Disk, FileDisk, FileMode};
 use fault_lines::Fault;
 use feed_mux::{check_feed_for, mux_for};
 use feed_replies::{FeedFault, RunFault, Tally};
@@ -151,7 +153,8 @@ fn record_plain<W: Write + Drop>(
     replies: &mut ReplyLines<W>,
 ) -> Result<(), Fault> {
     let ran = record_feed_for::<Buffered, _, _, _>(rt.alloc(), feed, replies, &mut recorder);
-    close_record(rt, recorder, ended(ran, replies), outcome(replies), seal)
+    let (closed, _) = close_record(rt, recorder, ended(ran, replies), outcome(replies), seal);
+    closed
 }
 
 /// Records the feed under serials that the file doesn't have.
@@ -171,7 +174,8 @@ fn record_renumbered<W: Write + Drop>(
         replies,
     );
     let recorder = runner.give_back();
-    close_record(rt, recorder, ended(ran, replies), outcome(replies), seal)
+    let (closed, _) = close_record(rt, recorder, ended(ran, replies), outcome(replies), seal);
+    closed
 }
 
 /// The recorder, which gives streams serials that its file doesn't have.
@@ -196,21 +200,32 @@ fn serials_of(rt: &HostRuntime, recorder: &Recorder<FileDisk>) -> Result<Vec<u32
 }
 
 /// Tells what was recorded. Unless a fault came, or a refusal ended the run, the file is sealed, if that is asked for.
-fn close_record(
+/// The disk is returned as it stands otherwise; it is let go if the sealing fails.
+fn close_record<D: Disk + Drop>(
     rt: &HostRuntime,
-    recorder: Recorder<FileDisk>,
+    recorder: Recorder<D>,
     ended: Result<Tally, Fault>,
     outcome: Result<(), Fault>,
     seal: bool,
-) -> Result<(), Fault>
-    ensures ended { IfErr ended (λ fault. result ≡ Err fault) }
-    ensures failed { IfOk ended (λ tally. recorder.file.failed ≡ true → result ≡ Err Fault.Failed) }
+) -> (Result<(), Fault>, Option<D>)
+    // Nothing is sealed after a fault, or unasked.
+    ensures ended { IfErr ended (λ fault. result ≡ (Err fault, Some recorder.file.disk)) }
+    ensures failed { IfOk ended (λ tally. recorder.file.failed ≡ true
+        → result ≡ (Err Fault.Failed, Some recorder.file.disk)) }
     ensures refused { (fault : FaultOf) → IfOk ended (λ tally. recorder.file.failed ≡ false → outcome ≡ Err fault
-        → result ≡ Err fault) }
+        → result ≡ (Err fault, Some recorder.file.disk)) }
+    ensures unasked { IfOk ended (λ tally. recorder.file.failed ≡ false → outcome ≡ Ok tt → seal ≡ false
+        → result ≡ (Ok tt, Some recorder.file.disk)) }
+
+    // Nothing is told as sealed that isn't, and one fault alone comes of the sealing.
+    ensures asked { IfOk ended (λ tally. recorder.file.failed ≡ false → outcome ≡ Ok tt → seal ≡ true
+        → result.0 ≡ Ok tt → (disk : D) × (result.1 ≡ Some disk) × (D.is_honest recorder.file.disk
+        → IsSettled (D.state disk) × ((D.state disk).contents ≡ committed D.state recorder))) }
+    ensures only { IfOk ended (λ tally. recorder.file.failed ≡ false → outcome ≡ Ok tt
+        → OnErr result.0 (result ≡ (Err Fault.Seal, None))) }
 {
     let told = told(rt, ended, recorder.is_failed(), outcome);
-    let (closed, _) = seal_after(recorder, told, seal);
-    closed
+    seal_after(recorder, told, seal)
 }
 
 /// Tells what was recorded, and returns the first thing that was met.
