@@ -52,22 +52,41 @@ fn hub_over<D: Disk + Drop>(alloc: Global, recorder: Recorder<D>) -> Result<Open
     }
 }
 
-/// Returns the fault that was met. If none was, the file is sealed if it was sealed at first.
-pub fn close<D: Disk + Drop>(opened: Opened<D>, served: Result<(), Fault>) -> Result<(), Fault>
-    ensures met { IfErr served (λ fault. result ≡ Err fault) }
-    ensures left { opened.sealed ≡ false → result ≡ served }
+/// What the serving has come to, and the disk of the file, unless that was lost: sealed, if no fault was met and the
+/// file was sealed at first, and otherwise as it stands. The disk is let go if the sealing fails.
+pub fn close<D: Disk + Drop>(
+    opened: Opened<D>,
+    served: Result<(), Fault>,
+) -> (Result<(), Fault>, Option<D>)
+    ensures met { IfErr served (λ fault. result.0 ≡ Err fault) }
+    ensures left { opened.sealed ≡ false → result.0 ≡ served }
+    ensures stands { IfErr served (λ fault. IfSome opened.hub.file (λ recorder. result.1 ≡ Some recorder.file.disk)) }
+    ensures unasked { opened.sealed ≡ false → IfSome opened.hub.file (λ recorder. result.1 ≡ Some recorder.file.disk) }
+    ensures failed { served ≡ Ok tt → opened.sealed ≡ true → IfSome opened.hub.file (λ recorder.
+        recorder.file.failed ≡ true → result ≡ (Err Fault.Failed, None)) }
+    ensures asked { served ≡ Ok tt → opened.sealed ≡ true → result.0 ≡ Ok tt → IfSome opened.hub.file (λ recorder.
+        (disk : D) × (result.1 ≡ Some disk) × (D.is_honest recorder.file.disk
+        → IsSettled (D.state disk) × ((D.state disk).contents ≡ committed D.state recorder))) }
 {
-    let (closed, _) = disk_after(opened.hub, served, opened.sealed);
-    closed
+    disk_after(opened.hub, served, opened.sealed)
 }
 
-/// Returns the fault that was met. If none was, the file of the hub is sealed, unless it was lost.
-pub fn close_hub<D: Disk + Drop>(hub: Hub<D>, served: Result<(), Fault>) -> Result<(), Fault>
-    ensures met { IfErr served (λ fault. result ≡ Err fault) }
-    ensures lost { hub.file ≡ None → result ≡ served }
+/// What the serving has come to, and the disk of the hub's file, unless that was lost: sealed, if no fault was met, and
+/// otherwise as it stands. The disk is let go if the sealing fails.
+pub fn close_hub<D: Disk + Drop>(
+    hub: Hub<D>,
+    served: Result<(), Fault>,
+) -> (Result<(), Fault>, Option<D>)
+    ensures met { IfErr served (λ fault. result.0 ≡ Err fault) }
+    ensures lost { hub.file ≡ None → result ≡ (served, None) }
+    ensures stands { IfErr served (λ fault. IfSome hub.file (λ recorder. result.1 ≡ Some recorder.file.disk)) }
+    ensures failed { served ≡ Ok tt → IfSome hub.file (λ recorder. recorder.file.failed ≡ true
+        → result ≡ (Err Fault.Failed, None)) }
+    ensures asked { served ≡ Ok tt → result.0 ≡ Ok tt → IfSome hub.file (λ recorder.
+        (disk : D) × (result.1 ≡ Some disk) × (D.is_honest recorder.file.disk
+        → IsSettled (D.state disk) × ((D.state disk).contents ≡ committed D.state recorder))) }
 {
-    let (closed, _) = disk_after(hub, served, true);
-    closed
+    disk_after(hub, served, true)
 }
 
 /// What the hub has come to, and the disk of its file, unless that was lost: sealed, if no fault was met and that is asked

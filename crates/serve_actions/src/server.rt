@@ -17,7 +17,8 @@ const PATIENCE: u64 = 30;
 pub fn serve(rt: &HostRuntime, file: &str, address: &str, count: u32) -> Result<(), Fault> {
     let mut opened = open_hub(rt, file)?;
     let served = serve_to(rt, &mut opened.hub, address, count);
-    close(opened, served)
+    let (closed, _) = close(opened, served);
+    closed
 }
 
 /// Serves this many connections to the address.
@@ -54,7 +55,8 @@ pub fn live(
 ) -> Result<(), Fault> {
     let mut opened = open_grouped(rt, file, most)?;
     let served = live_to(rt, &mut opened.hub, address, feed, count);
-    close(opened, served)
+    let (closed, _) = close(opened, served);
+    closed
 }
 
 /// Serves this many connections to the address, and records the feed meanwhile.

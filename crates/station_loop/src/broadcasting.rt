@@ -75,7 +75,8 @@ fn file_station(
     let keeper = Keeper::new(rt, "", Told::new(rt, false, station.hub().end()));
     let ended = run_at(rt, station, keeper, OneFile, address, start, options)?;
     // The connections are gone.
-    close_hub(ended.hub, ended.ran)
+    let (closed, _) = close_hub(ended.hub, ended.ran);
+    closed
 }
 
 /// The same over a folder.
