@@ -2,3 +2,4 @@ pub mod Checks
 pub mod Lines
 pub mod CutLines
 pub mod Times
+pub mod Copies
