@@ -1,3 +1,4 @@
 pub mod Fronts
 mod CutFronts
 pub mod Passing
+mod Salvaged

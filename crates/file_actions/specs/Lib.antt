@@ -3,3 +3,4 @@ pub mod Lines
 pub mod CutLines
 pub mod Times
 pub mod Copies
+pub mod Salvage
