@@ -2,3 +2,4 @@ pub mod Fronts
 mod CutFronts
 pub mod Passing
 mod Salvaged
+mod Walked

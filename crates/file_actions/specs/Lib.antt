@@ -4,3 +4,4 @@ pub mod CutLines
 pub mod Times
 pub mod Copies
 pub mod Salvage
+pub mod Indexed
