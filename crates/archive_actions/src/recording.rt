@@ -1,5 +1,8 @@
 //! What a stream is recorded into: a file, or the files of a folder.
+ghost use Rattle.std.specs.Prelude.{◌≡◌, ◌↔◌, IfSome, IsTrue, None, Some, Ok, Err, true, false};
 ghost use Rattle.archive_record.specs.Files.{AllKept};
+ghost use Rattle.disk_model.specs.Image.{IsSettled};
+ghost use Rattle.file_recorder.specs.Recorder.{committed};
 
 use crate::archiving::{end_open, open_ended, unended_fault};
 use crate::filing::{granted, now};
@@ -104,14 +107,35 @@ impl FileRecording<'_> {
     /// Returns what was told of, if that is a fault. Else the file is sealed, if that is asked for.
     pub fn seal(self, seal: bool) -> Result<(), Fault> {
         let FileRecording { recorder, told, .. } = self;
-        match (told.fault(), recorder) {
-            (Some(fault), _) => Err(fault),
-            (None, Some(recorder)) => {
-                seal_if(recorder, seal)?;
-                Ok(())
-            }
-            (None, None) => Err(Fault::Failed),
-        }
+        let (sealed, _) = seal_told(told.fault(), recorder, seal);
+        sealed
+    }
+}
+
+/// What a recording has come to, and the disk that was recorded into. If there is a fault that was told of, it is that
+/// one, and the disk is returned as it stands. Else the file is sealed, if that is asked for; the disk is let go if that
+/// fails.
+fn seal_told<D: Disk + Drop>(
+    told: Option<Fault>,
+    recorder: Option<Recorder<D>>,
+    seal: bool,
+) -> (Result<(), Fault>, Option<D>)
+    ensures told { IfSome told (λ fault. result.0 ≡ Err fault) }
+    ensures left { IfSome told (λ fault. IfSome recorder (λ r. result.1 ≡ Some r.file.disk)) }
+    ensures lost { told ≡ None → recorder ≡ None → result.0 ≡ Err Fault.Failed }
+    ensures unasked { told ≡ None → seal ≡ false → IfSome recorder (λ r. result ≡ (Ok tt, Some r.file.disk)) }
+    ensures failed { told ≡ None → seal ≡ true → IfSome recorder (λ r. r.file.failed ≡ true → result.0 ≡ Err Fault.Failed) }
+    ensures asked { told ≡ None → seal ≡ true → result.0 ≡ Ok tt → IfSome recorder (λ r. (disk : D) × (result.1 ≡ Some disk)
+        × (D.is_honest r.file.disk → IsSettled (D.state disk) × ((D.state disk).contents ≡ committed D.state r))) }
+{
+    match (told, recorder) {
+        (Some(fault), Some(recorder)) => (Err(fault), Some(recorder.give_back())),
+        (Some(fault), None) => (Err(fault), None),
+        (None, Some(recorder)) => match seal_if(recorder, seal) {
+            Ok(disk) => (Ok(()), Some(disk)),
+            Err(fault) => (Err(fault), None),
+        },
+        (None, None) => (Err(Fault::Failed), None),
     }
 }
 
@@ -337,13 +361,30 @@ impl<D: Disk + Drop, F: Folder<File = D> + Drop> FolderRecording<'_, D, F> {
             mut keeper,
             ..
         } = self;
-        let sealed = match keeper.told.fault() {
-            Some(fault) => Err(fault),
-            None if seal && !archive.close(&mut keeper) => Err(Fault::Seal),
-            None => Ok(()),
-        };
+        let told = keeper.told.fault();
+        let is_closed = !is_due(told, seal) || archive.close(&mut keeper);
         keeper.sync_ended();
-        sealed
+        after_closing(told, is_closed)
+    }
+}
+
+/// Whether the newest file is sealed at the end: that is asked for, and no fault was told of.
+fn is_due(told: Option<Fault>, seal: bool) -> bool
+    ensures { IsTrue result ↔ (told ≡ None) × (seal ≡ true) }
+{
+    told.is_none() && seal
+}
+
+/// What a recording has come to: the fault that was told of, or whether all that was to be sealed is.
+fn after_closing(told: Option<Fault>, is_closed: bool) -> Result<(), Fault>
+    ensures told { IfSome told (λ fault. result ≡ Err fault) }
+    ensures unclosed { told ≡ None → is_closed ≡ false → result ≡ Err Fault.Seal }
+    ensures done { told ≡ None → is_closed ≡ true → result ≡ Ok tt }
+{
+    match told {
+        Some(fault) => Err(fault),
+        None if is_closed => Ok(()),
+        None => Err(Fault::Seal),
     }
 }
 
