@@ -6,11 +6,11 @@ use Rattle.serve_hub.specs.Parts.{failed_in}
 use Rattle.serve_hub.specs.Showing.{Shows}
 use Rattle.serve_machine.specs.Hub.{HubState}
 use Rattle.station_hub.specs.Patience.{is_due}
-use Rattle.station.specs.Clocks.{since_after}
+use Rattle.station.specs.Clocks.{KeepsClocks, clocks_of, ended_with_input, since_after}
 use Rattle.station.specs.Stepping.{HasFlushed}
 use Rattle.station.specs.declared.station.Station.{Station}
 use Rattle.station.specs.declared.stepping.Done.TheVariants.{Flushed}
-use Rattle.station_laws.specs.Calling.{After, Call, Stepped}
+use Rattle.station_laws.specs.Calling.{After, Aside, Call, EndedOpen, Stepped}
 
 module _ {D : Type 0} (model : DiskModel D) where
   -- what waited was committed, or couldn't be, as the recorder answers a flush
@@ -25,11 +25,19 @@ module _ {D : Type 0} (model : DiskModel D) where
         → (failed_in old.live.hub.file ≡ true) ⊎ (is_due machine.waiting old.waiting_since now ≡ true) → new.waiting_since ≡ old.waiting_since
     pub commits : (machine : HubState) → Shows model old.live.hub machine → failed_in old.live.hub.file ≡ false
         → is_due machine.waiting old.waiting_since now ≡ true → IsCommitted old new
+    pub rest : (new.options ≡ old.options) × (new.ending ≡ old.ending)
 
-  -- Any other call leaves it.
+  -- The end of the input may begin the station's end.
+  abbrev pub EndsByInput : Station D → Station D → Type 0
+  EndsByInput old new =
+      (now : ℕ) × (clocks_of new ≡ record (clocks_of old) { ending = ended_with_input old.options.ends_with_input old.ending now })
+
+  -- Any other call leaves all that, but that the ending of what is open may open the file again.
   abbrev pub IsInTime : Call → Station D → Station D → Type 0
   IsInTime (Stepped now) old new = StepsInTime now old new
-  IsInTime call old new = new.waiting_since ≡ old.waiting_since
+  IsInTime EndedOpen old new = clocks_of new ≡ record (clocks_of old) { reopened = new.reopened }
+  IsInTime Aside old new = KeepsClocks old new ⊎ EndsByInput old new
+  IsInTime call old new = KeepsClocks old new
 
   -- each takes the station that the one before it left to the next
   abbrev pub AreInTime : Station D → List (After D) → Type 0

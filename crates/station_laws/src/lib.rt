@@ -20,4 +20,4 @@ pub use calls::{
 pub use connections::connections_get_their_responses;
 pub use places::listeners_of_a_station_join_committed_links;
 pub use sources::stations_import_their_sources;
-pub use waiting::commands_wait_no_longer;
+pub use waiting::{an_end_stays, commands_wait_no_longer};

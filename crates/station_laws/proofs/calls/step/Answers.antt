@@ -10,4 +10,5 @@ returns-clause-time g c = record {
   commits = λ machine shows works due.
       let has = c.step.ensures.commits machine shows works due in
       (has.reply, subst (λ (done : Done). HasFlushed g.D.Disk done c.args.station.now.live c.step.new.self.live) has.flushed has);
+  rest = (c.step.ensures.rest.0, c.step.ensures.rest.1);
 }
