@@ -1,16 +1,13 @@
 //! A file, or the files of a folder, that is recorded and served, for any number of connections.
 ghost use Rattle.archive_record.specs.Files.{AllKept};
 
-use crate::fetching::Listed;
 use crate::filing::{Files, OneFile, Recorded, SystemReaders, fault_of};
-use crate::hearing::Seen;
 use crate::running::Running;
 use crate::sockets::Sockets;
 use archive_actions::{Filing, Keeper, granted, is_folder, lock_folder, now, with_slash};
-use archive_clock::SystemZone;
-use archive_fetch::Fetches;
 use archive_folder::{Folder, SystemFolder};
 use archive_record::{ArchiveNames, Rules};
+use archive_requests::{Requests, Shelf};
 use disk_model::Disk;
 use fault_lines::Fault;
 use import_feed::Skeletons;
@@ -21,7 +18,6 @@ use serve_hub::Hub;
 use serve_origins::Allowed;
 use station::{Options as StationOptions, Station};
 use station_files::{Filed, Readers, Stations};
-use std::collections::HashMap;
 use std::net::SocketAddr;
 use std::time::Instant;
 
@@ -135,7 +131,7 @@ struct Finished<'a, D: Disk + Drop, R: Drop> {
 }
 
 /// Has the station listen to the address, and runs it until a fault, or until it has come to its end.
-fn run_at<'a, D: Disk + Drop, R: Recorded<D> + Drop>(
+fn run_at<'a, D: Disk + Drop, R: Recorded<D> + Shelf<D> + Drop>(
     rt: &'a HostRuntime,
     station: Station<D>,
     keeper: Keeper<'a>,
@@ -146,7 +142,7 @@ fn run_at<'a, D: Disk + Drop, R: Recorded<D> + Drop>(
 ) -> Result<Finished<'a, D, R>, Fault> {
     let allowed = allowed_by(rt, options)?;
     let sockets = listen(rt, address)?;
-    let fetches = granted(Fetches::new(rt.alloc()))?;
+    let requests = granted(Requests::new(rt, keeper.folder()))?;
     let mut running = Running {
         rt,
         keeper,
@@ -155,11 +151,7 @@ fn run_at<'a, D: Disk + Drop, R: Recorded<D> + Drop>(
         most: options.listeners as usize,
         stations: Stations::new(rt.alloc(), station),
         sockets,
-        fetches,
-        listed: Listed::new(Vec::new(rt.alloc())),
-        seen: Seen::new(Vec::new(rt.alloc())),
-        cuts: HashMap::new(rt.alloc()),
-        zone: SystemZone::read(rt),
+        requests,
         allowed,
         start,
         now: 0,

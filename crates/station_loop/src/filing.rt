@@ -1,10 +1,10 @@
 //! What a station is recorded into: a file, or the files of a folder.
 
-use archive_fetch::FileFacts;
 use archive_folder::{FileName, Folder, SystemFile};
 use archive_names::Kind;
 use archive_reading::Prefix;
 use archive_record::{ArchiveFault, Beside, text_of};
+use archive_requests::{FileFacts, Shelf};
 use disk_model::{Disk, FileDisk};
 use fault_lines::Fault;
 use gate_file::OpenFault;
@@ -36,16 +36,6 @@ pub trait Recorded<D: Disk> {
         clocks: Clocks,
         beside: &mut B,
     ) -> Result<Done, Fault>;
-
-    /// Whether it is a folder, whose files can be fetched.
-    fn is_folder(&self) -> bool;
-
-    /// The file of the folder with this number, to be read, and how it stands: all of it that is committed, by the hub over
-    /// the newest. None if there is no such file, or more than one.
-    fn file(&mut self, number: u64, hub: &Hub<D>) -> Option<(FileFacts, Prefix<D>)>;
-
-    /// The number of the file that is recorded.
-    fn newest(&self) -> u64;
 }
 
 /// One file.
@@ -71,12 +61,14 @@ impl<D: Disk> Recorded<D> for OneFile {
     ) -> Result<Done, Fault> {
         Ok(done)
     }
+}
 
+impl<D: Disk> Shelf<D> for OneFile {
     fn is_folder(&self) -> bool {
         false
     }
 
-    fn file(&mut self, _number: u64, _hub: &Hub<D>) -> Option<(FileFacts, Prefix<D>)> {
+    fn file(&mut self, _number: u64, _committed: u64) -> Option<(FileFacts, Prefix<D>)> {
         None
     }
 
@@ -135,19 +127,21 @@ impl<D: Disk + Drop, F: Folder<File = D> + Drop, R: Readers<D> + Drop> Recorded<
             Err(fault) => Err(fault_of(fault)),
         }
     }
+}
 
+impl<D: Disk + Drop, F: Folder<File = D> + Drop, R: Readers<D> + Drop> Shelf<D> for Files<F, R> {
     fn is_folder(&self) -> bool {
         true
     }
 
-    fn file(&mut self, number: u64, hub: &Hub<D>) -> Option<(FileFacts, Prefix<D>)> {
+    fn file(&mut self, number: u64, committed: u64) -> Option<(FileFacts, Prefix<D>)> {
         let name = self.filed.named(number)?;
         let whole = Prefix::whole(self.readers.open(name)?).ok()?;
         let has_ended = name != self.filed.name();
         let bytes = if has_ended {
             whole.end()
         } else {
-            whole.end().min(hub.end())
+            whole.end().min(committed)
         };
         let file = FileFacts {
             number,

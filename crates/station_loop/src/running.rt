@@ -1,14 +1,11 @@
 //! A station that runs: round after round bytes go between its sockets and the machine, which decides everything.
 
-use crate::cutting::Cutout;
-use crate::fetching::{Listed, front_of};
+use crate::fetching::front_of;
 use crate::filing::Recorded;
-use crate::hearing::Seen;
 use crate::sockets::{Connection, Sockets, trouble};
 use crate::telling::{seconds, tell_done};
 use archive_actions::{Keeper, now};
-use archive_clock::SystemZone;
-use archive_fetch::Fetches;
+use archive_requests::{Requests, Shelf};
 use disk_model::Disk;
 use fault_lines::Fault;
 use import_record::RecordFault;
@@ -16,7 +13,6 @@ use serve_actions::{Log, tell_foreign};
 use serve_origins::Allowed;
 use station::{After, Done, FULL, Feeder, Trouble, station_line};
 use station_files::{Clocks, Seat, Stations};
-use std::collections::HashMap;
 use std::io::{self, Read, Write};
 use std::net::{Shutdown, SocketAddr};
 use std::time::Instant;
@@ -26,7 +22,7 @@ const IN_ROUND: u32 = 64;
 
 /// A station that runs.
 #[derive(Drop)]
-pub struct Running<'a, D: Disk + Drop, R: Recorded<D> + Drop> {
+pub struct Running<'a, D: Disk + Drop, R: Recorded<D> + Shelf<D> + Drop> {
     pub rt: &'a HostRuntime,
     pub stations: Stations<D>,
     /// What is told, and what stands beside the files of a folder.
@@ -34,14 +30,8 @@ pub struct Running<'a, D: Disk + Drop, R: Recorded<D> + Drop> {
     /// What it is recorded into.
     pub recorded: R,
     pub sockets: Sockets,
-    /// Who fetches files of the folder, and the list of these.
-    pub fetches: Fetches<D>,
-    pub listed: Listed,
-    pub seen: Seen,
-    /// The cuts that connections get, by their keys.
-    pub cuts: HashMap<usize, Cutout<'a>>,
-    /// The zone in which times without an offset are asked for, UTC if there is none.
-    pub zone: Option<SystemZone>,
+    /// Who fetches something of the folder.
+    pub requests: Requests<'a, D>,
     /// What responses get, so that pages of another site may read them.
     pub allowed: Option<Allowed>,
     pub log: Log,
@@ -52,7 +42,7 @@ pub struct Running<'a, D: Disk + Drop, R: Recorded<D> + Drop> {
     pub now: u64,
 }
 
-impl<D: Disk + Drop, R: Recorded<D> + Drop> Running<'_, D, R> {
+impl<D: Disk + Drop, R: Recorded<D> + Shelf<D> + Drop> Running<'_, D, R> {
     /// Runs until a fault, or until the station has come to its end. A fault that was told is the last to be returned.
     pub fn run_to_end(&mut self) -> Result<(), Fault> {
         let ran = self.run();
@@ -89,14 +79,14 @@ impl<D: Disk + Drop, R: Recorded<D> + Drop> Running<'_, D, R> {
             self.until_next(now)
         };
         self.sockets
-            .wait(&mut self.stations, &mut self.fetches, most)?;
+            .wait(&mut self.stations, &mut self.requests.fetches, most)?;
         self.now = self.microseconds()? / 1000;
         Ok(())
     }
 
     /// How many milliseconds may be waited, if nothing comes, until there is something to do.
     fn until_next(&self, now: u64) -> u64 {
-        if self.fetches.turns() > 0 {
+        if self.requests.fetches.turns() > 0 {
             0
         } else {
             self.stations.until_next(now)
@@ -106,7 +96,7 @@ impl<D: Disk + Drop, R: Recorded<D> + Drop> Running<'_, D, R> {
     /// Whether the station has come to its end. Whoever fetches a file then gets the rest of it, within a minute.
     fn is_finished(&self) -> bool {
         self.stations.is_finished(self.now)
-            && (self.fetches.connections() == 0 || self.stations.has_waited(self.now))
+            && (self.requests.fetches.connections() == 0 || self.stations.has_waited(self.now))
     }
 
     /// Takes what has come, records it, and sends what there is to send. It returns whether more can be done at once.
@@ -127,7 +117,7 @@ impl<D: Disk + Drop, R: Recorded<D> + Drop> Running<'_, D, R> {
     }
 }
 
-impl<D: Disk + Drop, R: Recorded<D> + Drop> Running<'_, D, R> {
+impl<D: Disk + Drop, R: Recorded<D> + Shelf<D> + Drop> Running<'_, D, R> {
     /// Accepts connections that wait. It returns whether there may be more of them.
     fn accept(&mut self) -> bool {
         for _ in 0..IN_ROUND {
@@ -141,7 +131,7 @@ impl<D: Disk + Drop, R: Recorded<D> + Drop> Running<'_, D, R> {
 
     /// A connection was accepted. If there are too many it is told so, and closed.
     fn add(&mut self, connection: Connection) {
-        let elsewhere = self.fetches.connections();
+        let elsewhere = self.requests.fetches.connections();
         let Ok(key) = self.stations.accepted(self.most, elsewhere, self.now) else {
             let _ = (&connection.stream).write(FULL);
             let _ = connection.stream.shutdown(Shutdown::Write);
@@ -279,7 +269,7 @@ impl<D: Disk + Drop, R: Recorded<D> + Drop> Running<'_, D, R> {
     }
 }
 
-impl<D: Disk + Drop, R: Recorded<D> + Drop> Running<'_, D, R> {
+impl<D: Disk + Drop, R: Recorded<D> + Shelf<D> + Drop> Running<'_, D, R> {
     /// Whether standard input is to be read now.
     fn has_input(&self) -> bool {
         self.sockets.has_input && self.stations.newest().wants_input()
@@ -418,12 +408,12 @@ impl<D: Disk + Drop, R: Recorded<D> + Drop> Running<'_, D, R> {
     fn tell(&mut self) {
         self.log.tell(&mut self.keeper.told);
         if self.stations.look(self.now) {
-            let elsewhere = self.fetches.kinds().and(self.stations.kinds());
+            let elsewhere = self.requests.fetches.kinds().and(self.stations.kinds());
             self.stations.newest_mut().tell_elsewhere(elsewhere);
             let line = station_line(self.stations.newest().shown());
             self.keeper.told.show_other(line.as_slice());
             self.stations.close_unread();
-            self.fetches.look(self.now);
+            self.requests.fetches.look(self.now);
         }
     }
 }

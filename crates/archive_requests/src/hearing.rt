@@ -1,8 +1,7 @@
 //! What was recorded from a time on is heard, file after file, and goes on into what is live.
 
-use crate::filing::Recorded;
-use crate::running::Running;
-use archive_cut::{CutFault, Recorded as Facts, Stand, is_before, stood_at};
+use crate::requests::{Present, Requests, Shelf};
+use archive_cut::{CutFault, Recorded, Stand, is_before, stood_at};
 use archive_fetch::{Heard, Memory};
 use archive_reading::{
     Listed, Prefix, ReadingFault, begin_of, end_from, folder, last_line_of, times_of,
@@ -48,9 +47,14 @@ fn beginning() -> Stand {
     }
 }
 
-impl<D: Disk + Drop, R: Recorded<D> + Drop> Running<'_, D, R> {
+impl<D: Disk + Drop> Requests<'_, D> {
     /// What was recorded from the time on. None if there is no file that can be read.
-    pub(crate) fn heard_from(&mut self, since: u64) -> Result<Option<Heard<D>>, Unheard> {
+    pub(crate) fn heard_from<S: Shelf<D>>(
+        &self,
+        since: u64,
+        shelf: &mut S,
+        committed: u64,
+    ) -> Result<Option<Heard<D>>, Unheard> {
         let files = self.list_files()?;
         for (at, file) in files.iter().enumerate() {
             let later = match files.get(at.saturating_add(1)) {
@@ -58,7 +62,7 @@ impl<D: Disk + Drop, R: Recorded<D> + Drop> Running<'_, D, R> {
                 None => u64::MAX,
             };
             if !is_before(later, since) {
-                if let Some(heard) = self.heard_in(file, later, since)? {
+                if let Some(heard) = self.heard_in(file, later, since, shelf, committed)? {
                     return Ok(Some(heard));
                 }
             }
@@ -68,7 +72,7 @@ impl<D: Disk + Drop, R: Recorded<D> + Drop> Running<'_, D, R> {
 
     /// The files of the folder, the oldest first.
     fn list_files(&self) -> Result<Vec<Listed>, Unheard> {
-        match folder(self.rt, self.keeper.folder()) {
+        match folder(self.rt, self.folder) {
             Ok(seen) => Ok(seen.files),
             Err(ReadingFault::Memory) => Err(Unheard::Memory),
             Err(_) => Err(Unheard::Folder),
@@ -77,22 +81,24 @@ impl<D: Disk + Drop, R: Recorded<D> + Drop> Running<'_, D, R> {
 
     /// What was recorded into this file from the time on; `later` is when the next one was begun. None if nothing was, or if
     /// the file can't be read.
-    fn heard_in(
-        &mut self,
+    fn heard_in<S: Shelf<D>>(
+        &self,
         file: &Listed,
         later: u64,
         since: u64,
+        shelf: &mut S,
+        committed: u64,
     ) -> Result<Option<Heard<D>>, Unheard> {
-        let Some(source) = self.pages_of(file)? else {
+        let Some(source) = self.pages_of(file, shelf, committed)? else {
             return Ok(None);
         };
-        let times = times_of(self.rt, self.keeper.folder(), file)?;
-        let facts = Facts {
+        let times = times_of(self.rt, self.folder, file)?;
+        let recorded = Recorded {
             begin: begin_of(file.name),
             later,
             committed: source.end(),
         };
-        let stand = stood_at(times.as_slice(), facts, since);
+        let stand = stood_at(times.as_slice(), recorded, since);
         // All of it was recorded by then: what follows is in the next one.
         if later < u64::MAX && source.end() <= stand.offset {
             return Ok(None);
@@ -105,16 +111,20 @@ impl<D: Disk + Drop, R: Recorded<D> + Drop> Running<'_, D, R> {
     }
 
     /// The committed pages of a file. None if they can't be read.
-    fn pages_of(&mut self, file: &Listed) -> Result<Option<Prefix<D>>, Unheard> {
-        let hub = self.stations.newest().hub();
-        let Some((facts, source)) = self.recorded.file(file.name.number, hub) else {
+    fn pages_of<S: Shelf<D>>(
+        &self,
+        file: &Listed,
+        shelf: &mut S,
+        committed: u64,
+    ) -> Result<Option<Prefix<D>>, Unheard> {
+        let Some((facts, source)) = shelf.file(file.name.number, committed) else {
             return Ok(None);
         };
         if !facts.has_ended {
             return Ok(Some(source));
         }
         let mut source = source;
-        let line = last_line_of(self.rt, self.keeper.folder(), file, source.end())?;
+        let line = last_line_of(self.rt, self.folder, file, source.end())?;
         let from = match line {
             Some(line) => line.offset,
             None => 0,
@@ -130,13 +140,13 @@ impl<D: Disk + Drop, R: Recorded<D> + Drop> Running<'_, D, R> {
 
     /// Before a turn of a connection that hears: what is committed by now may be heard. Who has heard all of a file that has
     /// ended hears the next one.
-    pub(crate) fn hear_on(&mut self, key: usize) {
+    pub(crate) fn hear_on<S: Shelf<D>>(&mut self, key: usize, shelf: &mut S, present: Present) {
         let Some(number) = self.fetches.file_heard(key) else {
             return;
         };
-        if number == self.recorded.newest() {
-            self.fetches.grows(key, self.stations.newest().hub().end());
-            if self.fetches.has_heard_all(key) && self.stations.is_finished(self.now) {
+        if number == shelf.newest() {
+            self.fetches.grows(key, present.committed);
+            if present.is_finished && self.fetches.has_heard_all(key) {
                 self.fetches.ends(key);
             }
             return;
@@ -146,43 +156,53 @@ impl<D: Disk + Drop, R: Recorded<D> + Drop> Running<'_, D, R> {
         }
         self.fetches.file_ended(key);
         if self.fetches.has_heard_all(key) {
-            self.hear_next(key, number);
+            self.hear_next(key, number, shelf, present);
         }
     }
 
     /// Goes on with the first file after this one that can be read. If there is none, what follows is waited for.
-    fn hear_next(&mut self, key: usize, number: u64) {
-        if self.seen.at != Some(self.now) {
+    fn hear_next<S: Shelf<D>>(&mut self, key: usize, number: u64, shelf: &mut S, present: Present) {
+        if self.seen.at != Some(present.now) {
             let Ok(files) = self.list_files() else {
                 return;
             };
             self.seen = Seen {
                 files,
-                at: Some(self.now),
+                at: Some(present.now),
             };
         }
-        let none = Vec::new(self.rt.alloc());
-        let files = std::mem::replace(&mut self.seen.files, none);
-        self.hear_first_after(files.as_slice(), key, number);
-        self.seen.files = files;
+        match self.first_after(number, shelf, present.committed) {
+            Ok(Some(next)) => self.fetches.goes_on(key, next),
+            Ok(None) => {}
+            Err(_) => self.fetches.cut(key),
+        }
     }
 
-    /// Goes on with the first of these files after this one that can be read.
-    fn hear_first_after(&mut self, files: &[Listed], key: usize, number: u64) {
-        for file in files {
+    /// The first file after this one that can be read, if there is one.
+    fn first_after<S: Shelf<D>>(
+        &self,
+        number: u64,
+        shelf: &mut S,
+        committed: u64,
+    ) -> Result<Option<Heard<D>>, Unheard> {
+        for file in &self.seen.files {
             if number < file.name.number {
-                match self.heard_whole(file) {
-                    Ok(Some(next)) => return self.fetches.goes_on(key, next),
-                    Ok(None) => {}
-                    Err(_) => return self.fetches.cut(key),
+                if let Some(next) = self.heard_whole(file, shelf, committed)? {
+                    return Ok(Some(next));
                 }
             }
         }
+        Ok(None)
     }
 
     /// A file from its first page on. None if it can't be read.
-    fn heard_whole(&mut self, file: &Listed) -> Result<Option<Heard<D>>, Unheard> {
-        let Some(source) = self.pages_of(file)? else {
+    fn heard_whole<S: Shelf<D>>(
+        &self,
+        file: &Listed,
+        shelf: &mut S,
+        committed: u64,
+    ) -> Result<Option<Heard<D>>, Unheard> {
+        let Some(source) = self.pages_of(file, shelf, committed)? else {
             return Ok(None);
         };
         match Heard::of(self.rt.alloc(), source, file.name.number, beginning()) {

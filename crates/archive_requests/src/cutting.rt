@@ -1,7 +1,6 @@
 //! What was recorded between two times, cut out while it is sent: a piece in each turn.
 
-use crate::filing::Recorded;
-use crate::running::Running;
+use crate::requests::Requests;
 use archive_fetch::{Memory, Reply, answer_in, cut_head, head_of};
 use disk_model::Disk;
 use fault_lines::Fault;
@@ -168,7 +167,7 @@ impl<'a> Cutout<'a> {
     }
 }
 
-impl<D: Disk + Drop, R: Recorded<D> + Drop> Running<'_, D, R> {
+impl<D: Disk + Drop> Requests<'_, D> {
     /// A connection that gets a cut has nothing left of it: the next piece is made.
     pub(crate) fn supply(&mut self, key: usize) {
         let Some(cutout) = self.cuts.get_mut(&key) else {
