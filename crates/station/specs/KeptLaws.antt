@@ -3,7 +3,7 @@ use Rattle.std.proofs.Common.{◌≡◌, ℕ, Option, Some, None, refl, sym, sub
 use Rattle.serve_clients.specs.Client.{ClientState}
 use Rattle.serve_sources.specs.declared.password.Password.{Password}
 use Rattle.slab.specs.Slab.{Slab, get}
-use Rattle.station.specs.Kept.{AreKept, AreTurned, InPlace, IsKept, IsLeft, IsTried, MayTurn}
+use Rattle.station.specs.Kept.{AreTurned, InPlace, IsKept, IsLeft, IsTried, MayTurn}
 
 pub kept_self : (password : Option Password) (now key : ℕ) (found : Option ClientState) → InPlace (IsKept password now key) found found
 kept_self password now key None = refl
@@ -23,7 +23,3 @@ turned_self (Some client) = (client.line, refl)
 
 pub all_turned : (old new : Slab ClientState) → ((key : ℕ) → get new key ≡ get old key) → AreTurned old new
 all_turned old new same key = subst (InPlace MayTurn (get old key)) (sym (same key)) (turned_self (get old key))
-
-pub all_kept : (password : Option Password) (now : ℕ) (old new : Slab ClientState) → ((key : ℕ) → get new key ≡ get old key) → AreKept password now old new
-all_kept password now old new same key =
-    subst (InPlace (IsKept password now key) (get old key)) (sym (same key)) (kept_self password now key (get old key))

@@ -1,6 +1,5 @@
-use Rattle.std.proofs.Common.{◌≡◌, Bool, Some, ap, subst, inl, inr}
+use Rattle.std.proofs.Common.{◌≡◌, Bool, Some, subst, inl, inr}
 use Rattle.std.proofs.lemmas.Bool.{cases_Bool}
-use Rattle.serve_clients.specs.Client.{ClientState, after_of}
 use Rattle.serve_clients.specs.Clients.{HasTurn, goes_again, rested, turned_by}
 use Rattle.slab.specs.Slab.{get}
 use Rattle.station.specs.PassingLaws.{has_turn}
