@@ -14,7 +14,7 @@ use fault_lines::Fault;
 use feed_runner::Runner;
 use file_recorder::Recorder;
 use import_record::{ImportRun, RecordFault, Step, run_all};
-use record_actions::{Told, reopen, seal_if};
+use record_actions::{Told, reopen, seal_after};
 use std::io;
 
 /// What a stream is recorded into. After a fault of the disk it is opened again, and the stream goes on.
@@ -128,14 +128,14 @@ fn seal_told<D: Disk + Drop>(
     ensures asked { told ≡ None → seal ≡ true → result.0 ≡ Ok tt → IfSome recorder (λ r. (disk : D) × (result.1 ≡ Some disk)
         × (D.is_honest r.file.disk → IsSettled (D.state disk) × ((D.state disk).contents ≡ committed D.state r))) }
 {
-    match (told, recorder) {
-        (Some(fault), Some(recorder)) => (Err(fault), Some(recorder.give_back())),
-        (Some(fault), None) => (Err(fault), None),
-        (None, Some(recorder)) => match seal_if(recorder, seal) {
-            Ok(disk) => (Ok(()), Some(disk)),
-            Err(fault) => (Err(fault), None),
-        },
-        (None, None) => (Err(Fault::Failed), None),
+    let met = match told {
+        Some(fault) => Err(fault),
+        None => Ok(()),
+    };
+    match (met, recorder) {
+        (met, Some(recorder)) => seal_after(recorder, met, seal),
+        (Err(fault), None) => (Err(fault), None),
+        (Ok(()), None) => (Err(Fault::Failed), None),
     }
 }
 
