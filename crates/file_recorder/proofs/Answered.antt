@@ -23,6 +23,7 @@ use Rattle.feed_replies.specs.declared.outcome.Outcome.TheVariants.{Held as WasH
 use Rattle.file_recorder.specs.Recovery.{Links, Shows, Accepts}
 use Rattle.file_recorder.specs.Recorder.{RecorderState, IsIn, recorder_state, committed, staged, IsRecorderStep}
 use Rattle.file_recorder.specs.Answer.{Tells, kept_by, call_of, command_step, flush_step}
+use Rattle.file_recorder.specs.Small.{begins_link}
 use Rattle.file_recorder.specs.Running.{Progress, progress, Answers, Replies, Writes, AnsweredBy, FlushedBy, FlushBecomes, Becomes, Fails, reply_of, reply_of_flush, steps_of}
 use Rattle.file_recorder.proofs.Lasting.{never}
 use Rattle.file_recorder.proofs.Stepping.{is_open}
@@ -32,6 +33,11 @@ pub at_reached : {D : Type 0} (before : Progress D) (recorder : RecorderState D)
 at_reached before recorder Q same q = subst (λ (r : RecorderState _). Q (progress before.first before.world r)) (sym same) q
 
 -- ---- replies
+-- what isn't false is true
+otherwise_begins : (b : Bool) → (b ≡ false → ⊥) → b ≡ true
+otherwise_begins true refuted = refl
+otherwise_begins false refuted = absurd (refuted refl)
+
 pub answered_by : {D : Type 0} (failed : Bool) (decided : Result ℕ Refusal) (r : Result Outcome Refusal) (old new : RecorderState D) (command : Command)
     → (failed ≡ true → r ≡ Err Failed)
     → (failed ≡ false → (refusal : Refusal) → decided ≡ Err refusal → r ≡ Err refusal)
@@ -42,21 +48,23 @@ pub answered_by : {D : Type 0} (failed : Bool) (decided : Result ℕ Refusal) (r
     → OnOk r (new.file.failed ≡ false)
     → OnOk r ((links : Links) → old.chain ≡ chain_state_of links → new.chain ≡ chain_state_of (links_after links command))
     → ((refusal : Refusal) → decided ≡ Err refusal → refusal ≢ Disk)
+    → (begins_link command ≡ false → r ≢ Err Memory)
     → AnsweredBy failed decided old command (reply_of r) new
-answered_by true decided r old new command by_failed by_rules otherwise same faulted tells good links not_disk =
+answered_by true decided r old new command by_failed by_rules otherwise same faulted tells good links not_disk memory =
     let is : r ≡ Err Failed = by_failed refl in (
       ap reply_of is,
       subst (λ (s : Result Outcome Refusal). IfErr s (λ refusal. refusal ≢ Disk → new ≡ old)) is same (λ e. cc e),
     )
-answered_by false (Err refusal) r old new command by_failed by_rules otherwise same faulted tells good links not_disk =
+answered_by false (Err refusal) r old new command by_failed by_rules otherwise same faulted tells good links not_disk memory =
     let is : r ≡ Err refusal = by_rules refl refusal refl in (
       ap reply_of is,
       subst (λ (s : Result Outcome Refusal). IfErr s (λ q. q ≢ Disk → new ≡ old)) is same (not_disk refusal refl),
     )
-answered_by false (Ok size) (Ok (WasHeld count)) old new command by_failed by_rules otherwise same faulted tells good links not_disk = (tells, (good, links))
-answered_by false (Ok size) (Ok (WasKept kept)) old new command by_failed by_rules otherwise same faulted tells good links not_disk = (tells, (good, links))
-answered_by false (Ok size) (Err refusal) old new command by_failed by_rules otherwise same faulted tells good links not_disk =
-    ⊎_elim (λ is. subst (λ (q : Refusal). Becomes old command (RefusedReply q) new) (sym is) (same (λ disk. let e : Memory ≡ Disk = sym is ∙ disk in cc e)))
+answered_by false (Ok size) (Ok (WasHeld count)) old new command by_failed by_rules otherwise same faulted tells good links not_disk memory = (tells, (good, links))
+answered_by false (Ok size) (Ok (WasKept kept)) old new command by_failed by_rules otherwise same faulted tells good links not_disk memory = (tells, (good, links))
+answered_by false (Ok size) (Err refusal) old new command by_failed by_rules otherwise same faulted tells good links not_disk memory =
+    ⊎_elim (λ is. subst (λ (q : Refusal). Becomes old command (RefusedReply q) new) (sym is)
+    (otherwise_begins (begins_link command) (λ none. memory none (ap Err is)), same (λ disk. let e : Memory ≡ Disk = sym is ∙ disk in cc e)))
     (λ is. subst (λ (q : Refusal). Becomes old command (RefusedReply q) new) (sym is) (faulted is)) (otherwise refl refl)
 
 some_wait : (held : ℕ) → (held ≡ 0 → ⊥) → 0 < held

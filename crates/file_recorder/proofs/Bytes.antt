@@ -98,7 +98,7 @@ module _ {D : Type 0} (model : DiskModel D) (table : OfTable) where
   becomes : (links : Links) (waiting : List Command) (old new : RecorderState D) (command : Command) (refusal : Refusal) → HasWaiting model.state links waiting old
       → Becomes old command (RefusedReply refusal) new → committed model.state new ≡ committed model.state old
       → GoesOn links waiting old new (CommandOf command) (RefusedReply refusal) ⊎ Ends waiting old new (CommandOf command) (RefusedReply refusal)
-  becomes links waiting old new command Memory has same writes = inl (stays links waiting waiting old new has same refl)
+  becomes links waiting old new command Memory has (begins, same) writes = inl (stays links waiting waiting old new has same refl)
   becomes links waiting old new command Disk has fails writes = inr (fails.0, writes, refl)
   becomes links waiting old new command refusal has never writes = absurd never
 

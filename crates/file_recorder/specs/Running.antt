@@ -9,6 +9,7 @@ use Rattle.feed_replies.specs.declared.reply.Reply.{Reply}
 use Rattle.feed_replies.specs.declared.reply.Reply.TheVariants.{Held as HeldReply, Kept as KeptReply, Refused as RefusedReply}
 use Rattle.link_chain.specs.ChainState.{chain_state_of}
 use Rattle.link_chain.specs.Recording.{Recording}
+use Rattle.link_chain.specs.declared.stream_state.StreamState.{StreamState}
 use Rattle.chain_rules.specs.Decision.{decision}
 use Rattle.chain_rules.specs.Encoding.{command_bytes, links_after}
 use Rattle.chain_rules.specs.Recording.{add}
@@ -22,6 +23,7 @@ use Rattle.feed_replies.specs.declared.outcome.Outcome.TheVariants.{Held as WasH
 use Rattle.file_recorder.specs.Recovery.{Links, Shows, Accepts}
 use Rattle.file_recorder.specs.Recorder.{RecorderState, IsIn, recorder_state, committed, staged}
 use Rattle.file_recorder.specs.Answer.{Tells, kept_by, call_of, refused_step}
+use Rattle.file_recorder.specs.Small.{begins_link}
 
 -- How far a recorder has come: what its file showed at first, what has become of the commands since then, and the
 -- recorder itself. Whether it stands there in the history of its file is said by `IsIn`.
@@ -40,6 +42,10 @@ waiting_in before = before.now.held
 -- the length of what was kept
 abbrev pub end_in : {D : Type 0} → Progress D → ℕ
 end_in before = before.now.file.end
+
+-- the streams of the last link, those of the commands that wait included
+abbrev pub streams_in : {D : Type 0} → Progress D → List StreamState
+streams_in before = before.now.chain.streams
 
 -- ---- replies
 -- the reply that says what became of a command
@@ -65,12 +71,12 @@ Takes old command new =
     (new.file.failed ≡ false)
     × ((links : Links) → old.chain ≡ chain_state_of links → new.chain ≡ chain_state_of (links_after links command))
 
--- What becomes of a command that no rule refuses: it waits, or is kept with all that waited; or memory is short, and
--- then nothing changes; or the disk fails.
+-- What becomes of a command that no rule refuses: it waits, or is kept with all that waited; or memory is short for the
+-- streams of a new link, and then nothing changes; or the disk fails.
 abbrev pub Becomes : {D : Type 0} → RecorderState D → Command → Reply → RecorderState D → Type 0
 Becomes old command (HeldReply count) new = Tells old (WasHeld count) new × Takes old command new
 Becomes old command (KeptReply kept) new = Tells old (WasKept kept) new × Takes old command new
-Becomes old command (RefusedReply Memory) new = new ≡ old
+Becomes old command (RefusedReply Memory) new = (begins_link command ≡ true) × (new ≡ old)
 Becomes old command (RefusedReply Disk) new = Fails old new
 Becomes old command (RefusedReply refusal) new = ⊥
 

@@ -19,7 +19,7 @@ mod recorder;
 mod running;
 mod staging;
 
-pub use ending::end_open_streams;
+pub use ending::{end_open_streams, end_streams, first_open};
 pub use feed_replies::{Kept, Outcome};
 pub use gate_file::OpenFault;
 pub use laws::{

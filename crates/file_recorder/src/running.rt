@@ -1,6 +1,7 @@
 //! A recorder runs the records of a feed.
-ghost use Rattle.std.specs.Prelude.{◌≡◌};
-ghost use Rattle.file_recorder.specs.Running.{reply_of, reply_of_flush};
+ghost use Rattle.std.specs.Prelude.{◌≡◌, []};
+ghost use Rattle.feed_records.specs.declared.item.Record.{Record as RecordOf};
+ghost use Rattle.file_recorder.specs.Running.{Progress, Answers, Replies, reply_of, reply_of_flush};
 
 use crate::{Outcome, Recorder};
 use chain_rules::{Command, Refusal, refusals_are_of_the_table};
@@ -31,6 +32,21 @@ pub fn reply_to_flush(answer: Result<Kept, Refusal>) -> Reply
     }
 }
 
+impl<D: Disk> Recorder<D> {
+    /// Records a command, and returns the reply that says what became of it.
+    #[inline(always)]
+    pub(crate) fn answer(&mut self, command: &Command) -> Reply
+        ensures answers { (before : Progress D) → before.now ≡ self.old → (after : Progress D)
+            × Answers D.Disk before (RecordOf.Command command.now) result [] after × (after.now ≡ self.new) }
+        ensures replies { Replies self.old (RecordOf.Command command.now) result self.new }
+    {
+        // For the proof alone.
+        refusals_are_of_the_table();
+        let answer = self.command(command);
+        reply_to(answer)
+    }
+}
+
 /// Pages go only to the disk, and each reply says what became of the command or the flush.
 impl<D: Disk> Runner for Recorder<D> {
     ghost use Rattle.std.specs.Prelude.{◌≡◌};
@@ -54,10 +70,7 @@ impl<D: Disk> Runner for Recorder<D> {
         command: &Command,
         _pages: &mut P,
     ) -> Result<Reply, WriteFault> {
-        // For the proof alone.
-        refusals_are_of_the_table();
-        let answer = self.command(command);
-        Ok(reply_to(answer))
+        Ok(self.answer(command))
     }
 
     fn run_flush(&mut self) -> Reply {
