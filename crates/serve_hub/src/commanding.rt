@@ -1,9 +1,13 @@
 //! Commands go to the recorder of a hub, if there is a file.
 ghost use Rattle.std.specs.Prelude.{◌≡◌, ◌≢◌, ◌≤◌, ℕ, None, Some, Err, Option, length, IsSome, IfErr};
 ghost use Rattle.serve_machine.specs.Hub.{HubState, command_step, flush_step, group_step};
+ghost use Rattle.feed_records.specs.declared.item.Record.{Record as RecordOf};
 ghost use Rattle.file_recorder.specs.Recorder.{RecorderState, recorder_state};
+ghost use Rattle.file_recorder.specs.Running.{Replies, reply_of, reply_of_flush};
+ghost use Rattle.file_recorder.specs.Taking.{IsWholeChain};
 ghost use Rattle.serve_hub.specs.declared.opening.Lost.{Lost};
 ghost use Rattle.serve_hub.specs.Images.{IfFile, Records, Flushes};
+ghost use Rattle.serve_hub.specs.Running.{RepliesIn};
 ghost use Rattle.serve_hub.specs.Showing.{FindsLinks, ShowsFile, ShowsPlace, KeepsSessions};
 
 use chain_rules::{Command, Refusal, command_adds_its_packets, refusals_are_of_the_table};
@@ -23,6 +27,8 @@ fn record_command<D: Disk>(
         → FindsLinks before → FindsLinks after }
     ensures disk { Records D.Disk command.now result recorder.old recorder.new }
     ensures same { IfErr result (λ refusal. refusal ≢ Refusal.Disk → recorder.new ≡ recorder.old) }
+    ensures whole { IsWholeChain recorder.old.chain }
+    ensures replied { Replies recorder.old (RecordOf.Command command.now) (reply_of result) recorder.new }
 {
     // For the proof alone.
     command_is_in_range(command);
@@ -43,6 +49,8 @@ fn flush_commands<D: Disk>(recorder: &mut Recorder<D>) -> Result<Kept, Refusal>
         → FindsLinks before → FindsLinks after }
     ensures disk { Flushes D.Disk result recorder.old recorder.new }
     ensures same { IfErr result (λ refusal. refusal ≢ Refusal.Disk → recorder.new ≡ recorder.old) }
+    ensures whole { IsWholeChain recorder.old.chain }
+    ensures replied { Replies recorder.old RecordOf.Flush (reply_of_flush result) recorder.new }
 {
     // For the proof alone.
     let _before = recorder.end();
@@ -65,6 +73,7 @@ pub(crate) fn command_file<D: Disk>(
     ensures disk { IfFile (Records D.Disk command.now result) file.old file.new }
     ensures same { IfErr result (λ refusal. refusal ≢ Refusal.Disk → file.new ≡ file.old) }
     ensures no_file { file.old ≡ None → result ≡ Err Refusal.Failed }
+    ensures replied { RepliesIn file.old (RecordOf.Command command.now) (reply_of result) file.new }
 {
     match file {
         Some(recorder) => record_command(recorder, command),
@@ -82,6 +91,7 @@ pub(crate) fn flush_file<D: Disk>(file: &mut Option<Recorder<D>>) -> Result<Kept
     ensures disk { IfFile (Flushes D.Disk result) file.old file.new }
     ensures same { IfErr result (λ refusal. refusal ≢ Refusal.Disk → file.new ≡ file.old) }
     ensures no_file { file.old ≡ None → result ≡ Err Refusal.Failed }
+    ensures replied { RepliesIn file.old RecordOf.Flush (reply_of_flush result) file.new }
 {
     match file {
         Some(recorder) => flush_commands(recorder),

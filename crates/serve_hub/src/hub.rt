@@ -1,12 +1,15 @@
 //! A recorder, and the sessions of the clients that fetch its file.
 ghost use Rattle.std.specs.Prelude.{◌≡◌, ◌≢◌, ◌↔◌, ◌⊎◌, ◌≤◌, ◌<◌, ◌+◌, ◌^◌, [], ℕ, false, List, vec_capacity, None, Some, Err, IsSome, length, IfOk, IfErr};
+ghost use Rattle.feed_records.specs.declared.item.Record.{Record as RecordOf};
 ghost use Rattle.file_recorder.specs.Recorder.{RecorderState, committed};
+ghost use Rattle.file_recorder.specs.Running.{reply_of, reply_of_flush};
 ghost use Rattle.serve_machine.specs.Hub.{HubState, IsNew, IsNewFor, Connect, Receive, Pull, Close, Record, Flush, Group, Reopen, most_sessions};
 ghost use Rattle.serve_machine.specs.Calls.{Steps, found_by, given_in};
 ghost use Rattle.serve_sessions.specs.Serving.{LacksRoomIn};
 ghost use Rattle.serve_sessions.specs.Sessions.{place_in};
 ghost use Rattle.serve_hub.specs.Parts.{HasNoPlace, OnlyFile, OnlySessions, next_of};
 ghost use Rattle.serve_hub.specs.Images.{IfFile, Records, Flushes, Reads, Fails, Reopens, disk_in};
+ghost use Rattle.serve_hub.specs.Running.{RepliesIn};
 
 use crate::commanding::{command_file, flush_file, group_file, held_in};
 use crate::opening::{Lost, end_in, open_again, take_disk};
@@ -186,6 +189,7 @@ impl<D: Disk> Hub<D> {
         // Whatever the disk: a refusal other than `Disk` changes nothing.
         ensures same { IfErr result (λ refusal. refusal ≢ Refusal.Disk → self.new ≡ self.old) }
         ensures no_file { self.old.file ≡ None → result ≡ Err Refusal.Failed }
+        ensures replied { RepliesIn self.old.file (RecordOf.Command command.now) (reply_of result) self.new.file }
         ensures parts { OnlyFile self.old self.new }
     {
         sessions_stay();
@@ -200,6 +204,7 @@ impl<D: Disk> Hub<D> {
         // Whatever the disk: a refusal other than `Disk` changes nothing.
         ensures same { IfErr result (λ refusal. refusal ≢ Refusal.Disk → self.new ≡ self.old) }
         ensures no_file { self.old.file ≡ None → result ≡ Err Refusal.Failed }
+        ensures replied { RepliesIn self.old.file RecordOf.Flush (reply_of_flush result) self.new.file }
         ensures parts { OnlyFile self.old self.new }
     {
         sessions_stay();

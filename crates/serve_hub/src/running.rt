@@ -1,4 +1,7 @@
 //! A hub runs the records of a feed.
+ghost use Rattle.std.specs.Prelude.{[]};
+ghost use Rattle.feed_records.specs.declared.item.Record.{Record as RecordOf};
+ghost use Rattle.serve_hub.specs.Running.{Answers, IsIn, Progress, RepliesIn};
 
 use crate::hub::Hub;
 use chain_rules::Command;
@@ -8,6 +11,19 @@ use feed_runner::Runner;
 use file_recorder::{reply_to, reply_to_flush};
 use ogg_page::WriteFault;
 use std::io::Write;
+
+impl<D: Disk> Hub<D> {
+    /// Records a command, as [`Hub::command`] does, and returns the reply that says what became of it.
+    pub fn answer(&mut self, command: &Command) -> Reply
+        ensures answers { (before : Progress D) → IsIn D.Disk before self.old → (after : Progress D)
+            × Answers D.Disk before (RecordOf.Command command.now) result [] after × IsIn D.Disk after self.new }
+        // Whatever the disk.
+        ensures replied { RepliesIn self.old.file (RecordOf.Command command.now) result self.new.file }
+    {
+        let answer = self.command(command);
+        reply_to(answer)
+    }
+}
 
 /// Pages go only to the disk, and each reply says what became of the command or the flush.
 impl<D: Disk> Runner for Hub<D> {
@@ -30,11 +46,15 @@ impl<D: Disk> Runner for Hub<D> {
         command: &Command,
         _pages: &mut P,
     ) -> Result<Reply, WriteFault> {
-        let answer = self.command(command);
-        Ok(reply_to(answer))
+        Ok(self.answer(command))
     }
 
-    fn run_flush(&mut self) -> Reply {
+    fn run_flush(&mut self) -> Reply
+        ensures answers { (before : Progress D) → IsIn D.Disk before self.old → (after : Progress D)
+            × Answers D.Disk before RecordOf.Flush result [] after × IsIn D.Disk after self.new }
+        // Whatever the disk.
+        ensures replied { RepliesIn self.old.file RecordOf.Flush result self.new.file }
+    {
         let answer = self.flush();
         reply_to_flush(answer)
     }

@@ -1,3 +1,4 @@
+use Rattle.file_recorder.proofs.Answered.{flushed_by}
 use Rattle.serve_hub.proofs.Linked.{linked_flush, recorded_in}
 use Rattle.serve_hub.proofs.Stepping.{flushes}
 use Rattle.serve_hub.proofs.commanding.flush_commands.Goals as goal
@@ -24,3 +25,12 @@ pub returns-clause-linked : goal.returns-clause-linked
 returns-clause-linked g c = λ before after s step linked.
     let d = g.D.Disk in
     linked_flush before after c.flush-answer.result step linked (recorded_in d c.args.recorder.now before c.end-before.ensures.always s)
+
+pub returns-clause-whole : goal.returns-clause-whole
+returns-clause-whole g c = c.end-before.ensures.always.chain
+
+pub returns-clause-replied : goal.returns-clause-replied
+returns-clause-replied g c =
+    let e = c.flush-answer.ensures in
+    let old = c.args.recorder.now in
+    flushed_by old.file.failed c.flush-answer.result old c.flush-answer.new.self e.by_failed e.refusals e.nothing e.faulted e.tells e.good

@@ -1,3 +1,6 @@
+use Rattle.chain_rules.specs.Decision.{decision}
+use Rattle.file_recorder.proofs.Answered.{answered_by}
+use Rattle.file_recorder.proofs.Refused.{not_disk}
 use Rattle.serve_hub.proofs.Linked.{linked_command, recorded_in}
 use Rattle.serve_hub.proofs.Stepping.{commands}
 use Rattle.serve_hub.proofs.commanding.record_command.Goals as goal
@@ -28,3 +31,14 @@ returns-clause-linked g c = λ before after s step linked.
     let d = g.D.Disk in
     linked_command c.command_adds_its_packets.ensures.holds before after c.args.command.now c.command-answer.result c.command_is_in_range.ensures step linked
     (recorded_in d c.args.recorder.now before c.end-before.ensures.always s)
+
+pub returns-clause-whole : goal.returns-clause-whole
+returns-clause-whole g c = c.end-before.ensures.always.chain
+
+pub returns-clause-replied : goal.returns-clause-replied
+returns-clause-replied g c =
+    let e = c.command-answer.ensures in
+    let old = c.args.recorder.now in
+    let command = c.args.command.now in
+    answered_by old.file.failed (decision old.chain command) c.command-answer.result old c.command-answer.new.self command e.by_failed e.by_rules e.otherwise e.same
+    e.faulted e.tells e.good e.links (λ refusal is. not_disk refusal (c.refusals_are_of_the_table.ensures old.chain command refusal is).1) e.memory
