@@ -9,3 +9,4 @@ pub mod Steps
 pub mod Own
 pub mod Low
 pub mod Moved
+pub mod Lacks

@@ -200,7 +200,7 @@ any_own serials serial =
     (eq-eqb serial serial refl)
     ∙ or-true (list_any (nat_eq serial) serials)
 
-only_more : (serials more keys : List ℕ) → AllByRecursion (λ key. list_any (nat_eq key) serials ≡ true) keys
+pub only_more : (serials more keys : List ℕ) → AllByRecursion (λ key. list_any (nat_eq key) serials ≡ true) keys
     → AllByRecursion (λ key. list_any (nat_eq key) (serials ++ more) ≡ true) keys
 only_more serials more [] all = tt
 only_more serials more (key ∷ keys) (p, all) = (any_more (nat_eq key) serials more p, only_more serials more keys all)

@@ -106,15 +106,15 @@ end_begins given (Some serial) = none_begin given (EndOf serial) refl
 abbrev streams_under : Skeletons → List (ℕ × ℕ) → List NewStream → List NewStream
 streams_under skeletons names streams = map (stream_named names) (staying skeletons streams)
 
-under_of : (options : ChangeOptions) (given : List ℕ) (names : List (ℕ × ℕ)) (streams : List NewStream) (earlier : List ℕ)
+under_of : (options : ChangeOptions) (state : ChangeState) (names : List (ℕ × ℕ)) (streams : List NewStream) (earlier : List ℕ)
     (before link_now : List Stream)
     → AreNames (avoided options.renumber earlier) names → AreNamed names (serials_of (staying options.skeletons streams))
     → IsBefore options.skeletons (map begun (left_out options.skeletons streams)) (map begun (staying options.skeletons streams))
     earlier (serials_of (streams_under options.skeletons names streams)) before
     → AllByRecursion (IsNoName names) (serials before)
     → link_now ≡ before ++ map begun (streams_under options.skeletons names streams)
-    → IsUnderNames (record { options = options; given = given; names = names }) earlier (map begun streams) link_now
-under_of options given names streams earlier before link_now are all_named made apart is =
+    → IsUnderNames (record state { options = options; names = names }) earlier (map begun streams) link_now
+under_of options state names streams earlier before link_now are all_named made apart is =
     let skeletons : Skeletons = options.skeletons in
     let stay : List NewStream = staying skeletons streams in
     let stays : List Bool = stays_of skeletons streams in
@@ -148,11 +148,11 @@ under_new : (old state new : ChangeState) (streams : List NewStream) (earlier : 
     → link_now ≡ before ++ map begun (streams_under old.options.skeletons state.names streams)
     → IsUnderNames new earlier (map begun streams) link_now
 under_new old state new streams earlier before link_now by given options names made apart is =
-    subst (λ o. IsUnderNames (record { options = o; given = new.given; names = new.names }) earlier (map begun streams) link_now)
+    subst (λ o. IsUnderNames (record new { options = o }) earlier (map begun streams) link_now)
     (sym (options ∙ by.options))
-    (subst (λ m. IsUnderNames (record { options = old.options; given = new.given; names = m }) earlier (map begun streams) link_now)
+    (subst (λ m. IsUnderNames (record new { options = old.options; names = m }) earlier (map begun streams) link_now)
     (sym names)
-    (under_of old.options new.given state.names streams earlier before link_now
+    (under_of old.options new state.names streams earlier before link_now
     (subst (λ e. AreNames (avoided old.options.renumber e) state.names) given by.names)
     by.named made apart is))
 

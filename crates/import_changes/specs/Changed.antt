@@ -43,6 +43,9 @@ pub record ChangeState : Type 0 where
   pub given : List ℕ
   -- of the last link: each serial that a stream had, with the one that it has now
   pub names : List (ℕ × ℕ)
+  -- for how many further serials there is room, and for how many names in all
+  pub room : ℕ
+  pub name_room : ℕ
 
 -- ---- the recordings so far
 abbrev pub stream_under : List (ℕ × ℕ) → Stream → Stream
@@ -100,6 +103,12 @@ pub record HasChangedBeside (taken : List ℕ) (state : ChangeState) (commands g
 -- no serials were taken
 abbrev pub HasChanged : ChangeState → List Command → List Command → Type 0
 HasChanged state commands given = HasChangedBeside [] state commands given
+
+-- These commands become those in `given`, whatever became of the commands before them.
+abbrev pub Become : ChangeState → ChangeState → List Command → List Command → Type 0
+Become old new commands given =
+    (taken : List ℕ) (before now : List Command) → HasChangedBeside taken old before now → AllByRecursion IsPlain commands
+    → HasChangedBeside taken new (before ++ commands) (now ++ given)
 
 -- ---- serials that are shared by none
 abbrev pub IsNotOf : List ℕ → ℕ → Type 0

@@ -1,5 +1,6 @@
 pub mod Changed
 pub mod Links
+pub mod Memory
 pub mod Naming
 pub mod Options
 pub mod Renumbered

@@ -1,8 +1,9 @@
 //! Commands changed one after the other.
-ghost use Rattle.std.specs.Prelude.{◌≡◌, ◌<◌, ◌+◌, ◌++◌, ◌∷◌, [], ℕ, List, true, false, map, Ok, Some, None, OnOk, OnErr, IfOk, length};
+ghost use Rattle.std.specs.Prelude.{◌≡◌, ◌<◌, ◌≤◌, ◌+◌, ◌++◌, ◌∷◌, [], ℕ, List, true, false, map, Ok, Some, None, OnOk, OnErr, IfOk, length};
 ghost use Rattle.std.specs.List.{AllByRecursion, list_any};
 ghost use Rattle.ogg_command.specs.declared.command.Command.{Command as CommandOf};
 ghost use Rattle.import_changes.specs.Changed.{HasChanged, HasChangedBeside, IsPlain, begins};
+ghost use Rattle.import_changes.specs.Memory.{IsUnnamed, LacksMemory, LacksMemoryAmong, LacksMemoryFor};
 ghost use Rattle.import_changes.specs.Naming.{entries_named, name_of};
 ghost use Rattle.import_changes.specs.Options.{is_none};
 ghost use Rattle.import_changes.specs.Steps.{BeginAt, option_list, put_at};
@@ -37,11 +38,17 @@ pub struct Changes {
 impl Model for Changes {
     ghost use Rattle.import_changes.specs.Changed.{ChangeState};
     ghost use Rattle.import_changes.specs.Naming.{IsLow};
-    ghost use Rattle.std.specs.Prelude.{[]};
+    ghost use Rattle.std.specs.Prelude.{[], vec_capacity};
 
     ghost Value = { ChangeState };
 
-    ghost view = { λ c. record { options = c.options; given = c.given.listed; names = c.names.items } };
+    ghost view = { λ c. record {
+      options = c.options;
+      given = c.given.listed;
+      names = c.names.items;
+      room = c.given.room;
+      name_room = vec_capacity c.names;
+    } };
 
     ghost invariant = { λ c. IsLow c.given.listed [] c.low };
 }
@@ -66,13 +73,14 @@ impl Changes {
     }
 
     /// Before the first command: no stream gets one of these serials, as those of the file that is recorded into. With
-    /// `renumber` a stream that has one of them gets another; a Skeleton that is made never has one. After `Memory` all
-    /// is as before.
+    /// `renumber` a stream that has one of them gets another; a Skeleton that is made never has one. After `Memory`,
+    /// which comes only if there was no room for so many serials, all is as before but for the room.
     pub fn avoid(&mut self, serials: &[u32]) -> Result<(), Memory>
         ensures changed { OnOk result ((taken : List ℕ) → HasChangedBeside taken self.old [] []
             → HasChangedBeside (taken ++ serials.now) self.new [] []) }
         ensures options { self.new.options ≡ self.old.options }
-        ensures err { OnErr result (self.new ≡ self.old) }
+        ensures err { OnErr result (self.new ≡ record self.old { room = self.new.room }) }
+        ensures full { OnErr result (self.old.room < length serials.now) }
     {
         take_all(&mut self.given, serials)?;
         Ok(())
@@ -83,6 +91,9 @@ impl Changes {
         ensures names { OnOk result (Names self.old self.new stay.now) }
         ensures low { IfOk result (IsLow self.new.given (values_of self.new.names)) }
         ensures options { self.new.options ≡ self.old.options }
+        ensures room { self.new.room ≡ self.old.room }
+        ensures name_room { self.old.name_room ≤ self.new.name_room }
+        ensures full { OnErr result (IsUnnamed self.old self.new stay.now) }
     {
         let names = &mut self.names;
         if self.options.renumber {
@@ -103,11 +114,10 @@ impl Changes {
         requires { AreNamedFor self.old stay.items low }
         ensures begins { IfOk result (λ now. BeginsPlain self.old self.new skeleton stay.items now) }
         ensures options { self.new.options ≡ self.old.options }
+        ensures name_room { self.new.name_room ≡ self.old.name_room }
+        ensures full { OnErr result (self.old.room < length stay.items) }
     {
-        let streams = match streams_named(self.alloc, self.names.as_slice(), stay) {
-            Ok(streams) => streams,
-            Err(refused) => return Err(refused),
-        };
+        let streams = streams_named(self.names.as_slice(), stay);
         match give_all(&mut self.given, streams.as_slice()) {
             Ok(()) => {}
             Err(refused) => return Err(refused),
@@ -133,6 +143,7 @@ impl Changes {
         requires { AreNamedFor self.old stay.items low }
         ensures begins { IfOk result (λ now. BeginsDescribed from utc said.now self.old self.new stay.items now) }
         ensures options { self.new.options ≡ self.old.options }
+        ensures name_room { self.new.name_room ≡ self.old.name_room }
     {
         let serial = match free_serial(&self.given, self.names.as_slice(), from) {
             Ok(serial) => serial,
@@ -157,6 +168,8 @@ impl Changes {
     fn begin(&mut self, begin: Begin, utc: [u8; 20]) -> Result<Command, Memory>
         ensures begins { IfOk result (λ now. Begins utc self.old self.new begin now) }
         ensures options { self.new.options ≡ self.old.options }
+        ensures name_room { self.old.name_room ≤ self.new.name_room }
+        ensures full { OnErr result (LacksMemoryFor self.old self.new begin) }
     {
         let skeletons = self.options.skeletons;
         let (stay, said) = staying(self.alloc, skeletons, begin.streams.into_vec())?;
@@ -195,8 +208,9 @@ impl Changes {
 
     /// The command that this one becomes, if it isn't left out. A Skeleton that is made says this time of day, as
     /// Skeleton 3.0 writes it in its fishead, unless one that is left out says another; `NO_UTC` says that it isn't
-    /// known. Only a link's begin takes memory, and only if something is changed. After `Memory` change no further
-    /// command.
+    /// known. Only a link's begin takes memory, and only if something is changed: to put those streams together that
+    /// stay, if Skeletons are left out of the link, and for names and serials for which there was no room. `Memory` also
+    /// says that no serial is free. After it change no further command.
     pub fn change(&mut self, command: Command, utc: [u8; 20]) -> Result<Option<Command>, Memory>
         ensures changed { IfOk result (λ now. (taken : List ℕ) (commands given : List CommandOf)
             → HasChangedBeside taken self.old commands given → IsPlain command
@@ -204,7 +218,10 @@ impl Changes {
         ensures options { self.new.options ≡ self.old.options }
         ensures same { is_none self.old.options ≡ true → result ≡ Ok (Some command) }
         ensures times { IfOk result (λ now. BeginAt utc self.old.options (command ∷ []) (option_list now)) }
+        ensures stays { begins command ≡ false → self.new ≡ self.old }
+        ensures name_room { self.old.name_room ≤ self.new.name_room }
         ensures full { OnErr result ((is_none self.old.options ≡ false) × (begins command ≡ true)) }
+        ensures lacks { OnErr result (LacksMemory self.old self.new command) }
     {
         if self.options.is_none() {
             return Ok(Some(command));
@@ -217,7 +234,7 @@ impl Changes {
     }
 
     /// The commands that these become at this time of day, in the same memory. After `Memory`, which comes only if
-    /// something is changed and a link begins among them, change no further command.
+    /// something is changed and a link begins among them that takes memory, change no further command.
     pub fn apply(
         &mut self,
         mut commands: Vec<Command>,
@@ -230,6 +247,7 @@ impl Changes {
         ensures same { is_none self.old.options ≡ true → IfOk result (λ now. now.items ≡ commands.items) }
         ensures times { IfOk result (λ now. BeginAt utc self.old.options commands.items now.items) }
         ensures full { OnErr result ((is_none self.old.options ≡ false) × (list_any begins commands.items ≡ true)) }
+        ensures lacks { OnErr result (LacksMemoryAmong self.old self.new commands.items) }
     {
         if self.options.is_none() {
             return Ok(commands);

@@ -5,7 +5,7 @@ ghost use Rattle.skeleton3.specs.Fisbone.{fisbone_of};
 ghost use Rattle.import_changes.specs.Said.{IsDescribedBy, IsHeadSaid, described, described_as, is_unknown};
 ghost use Rattle.import_changes.specs.Steps.{IsDescribedUnder};
 
-use crate::renaming::stream_named;
+use crate::renaming::take_name;
 use crate::saying::{fields_said, found_in, head_in};
 use crate::skeletons::first_header;
 use import_commands::{Codec, rate_of, shift_of};
@@ -118,8 +118,9 @@ pub fn all_described(
 {
     let mut now = Vec::new(alloc);
     for stream in streams {
-        let described = described_by(alloc, said, stream)?;
-        now.push(stream_named(names, described))?;
+        let mut described = described_by(alloc, said, stream)?;
+        take_name(names, &mut described);
+        now.push(described)?;
     }
     Ok(now)
 }

@@ -76,6 +76,8 @@ fn first_free(given: &Serials, names: &[(u32, u32)], low: u32) -> Result<u32, Me
 fn keep(given: &Serials, names: &mut Vec<(u32, u32)>, serial: u32) -> Result<(), Memory>
     ensures kept { OnOk result (Keeps given.now.listed serial names.old.items names.new.items) }
     ensures full { OnErr result (vec_capacity names.new < vec_len names.new + 1) }
+    ensures unnamed { OnErr result ((names.new.items ≡ names.old.items) × (list_any (nat_eq serial) (keys_of names.old.items) ≡ false)) }
+    ensures capacity { vec_capacity names.old ≤ vec_capacity names.new }
 {
     if given.contains(serial) {
         return Ok(());
@@ -100,6 +102,8 @@ fn keep_all(
     requires { names.old.items ≡ [] }
     ensures kept { OnOk result (KeepsAll given.now.listed names.new.items (serials_of streams.now)) }
     ensures full { OnErr result (vec_capacity names.new < vec_len names.new + 1) }
+    ensures unnamed { OnErr result (length names.new.items < length streams.now) }
+    ensures capacity { vec_capacity names.old ≤ vec_capacity names.new }
 {
     for stream in streams {
         match keep(given, names, stream.serial) {
@@ -122,6 +126,8 @@ fn rename(
     ensures names { OnOk result (Renames given.now.listed serial names.old.items names.new.items) }
     ensures low { OnOk result (IsLow given.now.listed (values_of names.new.items) low.new) }
     ensures full { OnErr result (AreAllTaken given.now.listed (values_of names.new.items) ⊎ (vec_capacity names.new < vec_len names.new + 1)) }
+    ensures unnamed { OnErr result ((names.new.items ≡ names.old.items) × (list_any (nat_eq serial) (keys_of names.old.items) ≡ false)) }
+    ensures capacity { vec_capacity names.old ≤ vec_capacity names.new }
 {
     if name_of(names.as_slice(), serial).is_some() {
         return Ok(());
@@ -153,6 +159,8 @@ fn rename_all(
     ensures only { OnOk result (AreOnlyOf names.new.items (serials_of streams.now)) }
     ensures low { OnOk result (IsLow given.now.listed (values_of names.new.items) low.new) }
     ensures full { OnErr result (AreAllTaken given.now.listed (values_of names.new.items) ⊎ (vec_capacity names.new < vec_len names.new + 1)) }
+    ensures unnamed { OnErr result (length names.new.items < length streams.now) }
+    ensures capacity { vec_capacity names.old ≤ vec_capacity names.new }
 {
     for stream in streams {
         match rename(given, names, stream.serial, low) {
@@ -164,7 +172,7 @@ fn rename_all(
 }
 
 /// Names the streams of a new link, where the serials below `low` are taken. Returns the serial below which all are
-/// taken then.
+/// taken then. It fails only if a stream isn't named yet and all serials are taken, or there is no room for a name.
 pub fn name_all(
     given: &Serials,
     names: &mut Vec<(u32, u32)>,
@@ -177,6 +185,8 @@ pub fn name_all(
     ensures only { OnOk result (AreOnlyOf names.new.items (serials_of streams.now)) }
     ensures low { IfOk result (IsLow given.now.listed (values_of names.new.items)) }
     ensures full { OnErr result (AreAllTaken given.now.listed (values_of names.new.items) ⊎ (vec_capacity names.new < vec_len names.new + 1)) }
+    ensures unnamed { OnErr result (length names.new.items < length streams.now) }
+    ensures capacity { vec_capacity names.old ≤ vec_capacity names.new }
 {
     names.clear();
     match keep_all(given, names, streams) {

@@ -1,5 +1,5 @@
 //! Streams and packets under the serials that their streams have now.
-ghost use Rattle.std.specs.Prelude.{◌≡◌, ◌++◌, ◌∷◌, ◌≤◌, ◌<◌, length, map, IfOk, OnOk, OnErr};
+ghost use Rattle.std.specs.Prelude.{◌≡◌, ◌+◌, ◌++◌, ◌∷◌, ◌≤◌, ◌<◌, length, map, OnOk, OnErr};
 ghost use Rattle.ogg_command.specs.declared.command.NewStream.{NewStream as NewStreamOf};
 ghost use Rattle.import_changes.specs.Naming.{entries_named, named, serials_of, stream_named};
 
@@ -9,36 +9,28 @@ use ogg_command::{Entry, Listed, Memory, NewStream};
 use std::alloc::Global;
 use std::mem;
 
-/// The stream under the serial that it has now.
-pub fn stream_named(names: &[(u32, u32)], stream: NewStream) -> NewStream
-    ensures { result ≡ stream_named names.now stream }
+/// Gives the stream the serial that it has now.
+pub fn take_name(names: &[(u32, u32)], stream: &mut NewStream)
+    ensures { stream.new ≡ stream_named names.now stream.old }
 {
-    let serial = name_of(names, stream.serial).unwrap_or(stream.serial);
-    NewStream {
-        serial,
-        headers: stream.headers,
-        media: stream.media,
-        fields: stream.fields,
-        rate: stream.rate,
-        base_granule: stream.base_granule,
-        preroll: stream.preroll,
-        shift: stream.shift,
+    stream.serial = name_of(names, stream.serial).unwrap_or(stream.serial);
+}
+
+/// Gives each of the streams the serial that it has now.
+fn take_names(names: &[(u32, u32)], streams: &mut [NewStream])
+    ensures { streams.new ≡ map (stream_named names.now) streams.old }
+{
+    for stream in streams.iter_mut() {
+        take_name(names, stream);
     }
 }
 
-/// The streams under the serials that they have now.
-pub fn streams_named(
-    alloc: Global,
-    names: &[(u32, u32)],
-    streams: Vec<NewStream>,
-) -> Result<Vec<NewStream>, Memory>
-    ensures { IfOk result (λ now. now.items ≡ map (stream_named names.now) streams.items) }
+/// The streams under the serials that they have now, in the same memory.
+pub fn streams_named(names: &[(u32, u32)], mut streams: Vec<NewStream>) -> Vec<NewStream>
+    ensures { result.items ≡ map (stream_named names.now) streams.items }
 {
-    let mut now = Vec::new(alloc);
-    for stream in streams {
-        now.push(stream_named(names, stream))?;
-    }
-    Ok(now)
+    take_names(names, streams.as_mut_slice());
+    streams
 }
 
 /// The packets under the serials that their streams have now, without the packets that are of none of the streams, in
@@ -85,6 +77,7 @@ fn give_reserved(given: &mut Serials, streams: &[NewStream])
 pub fn give_all(given: &mut Serials, streams: &[NewStream]) -> Result<(), Memory>
     ensures ok { OnOk result (given.new.listed ≡ given.old.listed ++ serials_of streams.now) }
     ensures err { OnErr result (given.new.listed ≡ given.old.listed) }
+    ensures full { OnErr result (given.old.room < length streams.now) }
 {
     match given.reserve(streams.len()) {
         Ok(()) => {}
@@ -98,6 +91,7 @@ pub fn give_all(given: &mut Serials, streams: &[NewStream]) -> Result<(), Memory
 pub fn give_with(given: &mut Serials, serial: u32, streams: &[NewStream]) -> Result<(), Memory>
     ensures ok { OnOk result (given.new.listed ≡ given.old.listed ++ serial ∷ serials_of streams.now) }
     ensures err { OnErr result (given.new.listed ≡ given.old.listed) }
+    ensures full { OnErr result (given.old.room < length streams.now + 1) }
 {
     // A `Begin` has few streams, so the sum doesn't overflow.
     match given.reserve(streams.len().saturating_add(1)) {

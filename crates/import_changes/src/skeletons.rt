@@ -1,9 +1,10 @@
 //! Skeletons among the streams of a link: which are left out, and for which links one is made.
-ghost use Rattle.std.specs.Prelude.{◌≡◌, ◌∷◌, ◌++◌, [], false, not, IfOk, OnOk, length};
+ghost use Rattle.std.specs.Prelude.{◌≡◌, ◌∷◌, ◌++◌, [], false, not, IfOk, OnErr, OnOk, length};
 ghost use Rattle.std.specs.List.{filter, list_all};
 ghost use Rattle.ogg_command.specs.declared.command.NewStream.{NewStream as NewStreamOf};
 ghost use Rattle.import_commands.specs.Headers.{begins};
 ghost use Rattle.skeleton3.specs.Fishead.{fishead_name};
+ghost use Rattle.import_changes.specs.Memory.{IsParted};
 ghost use Rattle.import_changes.specs.Said.{first_of};
 ghost use Rattle.import_changes.specs.Skeletons.{headers_in, is_other, is_skeleton, leaves_out, made_for, said_in, staying};
 
@@ -87,8 +88,9 @@ pub fn staying(
     skeletons: Skeletons,
     streams: Vec<NewStream>,
 ) -> Result<(Vec<NewStream>, Vec<Listed<u8>>), Memory>
-    ensures { IfOk result (λ now. (now.0.items ≡ staying skeletons streams.items)
+    ensures stay { IfOk result (λ now. (now.0.items ≡ staying skeletons streams.items)
         × (now.1.items ≡ said_in skeletons streams.items)) }
+    ensures full { OnErr result (IsParted skeletons streams.items) }
 {
     if !leaves_out(skeletons) || are_skeletons(streams.as_slice()) {
         return Ok((streams, Vec::new(alloc)));

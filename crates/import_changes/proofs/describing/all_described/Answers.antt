@@ -13,7 +13,7 @@ loop-stream-preserved c =
     let yielded : List NewStream = c.loop-stream.yielded in
     let now : List NewStream = c.loop-stream.now.items in
     subst (AllZip (IsDescribedUnder names said) (yielded ++ c.in-Some.stream ∷ [])) (sym c.in_ok-push.ensures.items)
-    (zip_push (IsDescribedUnder names said) yielded now c.in-Some.stream c.stream_named.result c.loop-stream.invariant
-    (subst (IsDescribedUnder names said c.in-Some.stream) (sym c.stream_named.ensures)
+    (zip_push (IsDescribedUnder names said) yielded now c.in-Some.stream c.take_name.new.stream c.loop-stream.invariant
+    (subst (IsDescribedUnder names said c.in-Some.stream) (sym c.take_name.ensures)
     (described_under names said c.in-Some.stream c.in_ok-described.described c.in_ok-described.ensures.described
     c.in_ok-described.ensures.serial)))

@@ -20,3 +20,11 @@ returns-clause-kept c =
     (keyed names c.args.serial false
     (ap (λ l. is_some (name_of l c.args.serial)) (sym c.as_slice.ensures.value) ∙ ap is_some (sym c.name_of.ensures)
     ∙ sym c.is_some.ensures ∙ c.if-is_some.false)))
+
+pub returns-in-Err-clause-unnamed : goal.returns-in-Err-clause-unnamed
+returns-in-Err-clause-unnamed c = (
+  c.reserve.ensures.items,
+  keyed c.args.names.now.items c.args.serial false
+      (ap (λ l. is_some (name_of l c.args.serial)) (sym c.as_slice.ensures.value) ∙ ap is_some (sym c.name_of.ensures)
+      ∙ sym c.is_some.ensures ∙ c.if-is_some.false),
+)

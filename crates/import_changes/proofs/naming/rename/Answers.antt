@@ -1,4 +1,4 @@
-use Rattle.std.proofs.Common.{true, false, sym, ◌∙◌, ap, subst, ℕ, List, [], ◌∷◌, ◌++◌}
+use Rattle.std.proofs.Common.{true, false, refl, sym, ◌∙◌, ap, subst, ℕ, List, [], ◌∷◌, ◌++◌}
 use Rattle.std.specs.Option.{is_some}
 use Rattle.std.specs.Map.{values_of}
 use Rattle.import_changes.specs.Naming.{IsFirstFree, IsLow, Renames, name_of}
@@ -31,3 +31,19 @@ returns-clause-low c =
     (sym (c.push_reserved.ensures.items ∙ ap (λ l. l ++ (c.args.serial, c.in-Ok.free) ∷ []) c.reserve.ensures.items))
     (low_named c.args.given.now.listed names c.args.serial c.in-Ok.free
     (subst (λ l. IsFirstFree 0 c.args.given.now.listed (values_of l) c.in-Ok.free) c.as_slice-2.ensures.value c.in-Ok.ensures.free))
+
+pub returns-in-Err-clause-unnamed : goal.returns-in-Err-clause-unnamed
+returns-in-Err-clause-unnamed c = (
+  refl,
+  keyed c.args.names.now.items c.args.serial false
+      (ap (λ l. is_some (name_of l c.args.serial)) (sym c.as_slice.ensures.value) ∙ ap is_some (sym c.name_of.ensures)
+      ∙ sym c.is_some.ensures ∙ c.if-is_some.false),
+)
+
+pub returns-in-Err-reserve-clause-unnamed : goal.returns-in-Err-reserve-clause-unnamed
+returns-in-Err-reserve-clause-unnamed c = (
+  c.reserve.ensures.items,
+  keyed c.args.names.now.items c.args.serial false
+      (ap (λ l. is_some (name_of l c.args.serial)) (sym c.as_slice.ensures.value) ∙ ap is_some (sym c.name_of.ensures)
+      ∙ sym c.is_some.ensures ∙ c.if-is_some.false),
+)

@@ -1,8 +1,10 @@
-use Rattle.std.proofs.Common.{◌≡◌, true, nat_eq, ℕ, List, [], ◌∷◌, ◌++◌, take, sym, ◌∙◌, ap, subst}
+use Rattle.std.proofs.Common.{◌≡◌, true, false, arith, ◌<◌, length, nat_eq, ℕ, List, [], ◌∷◌, ◌++◌, take, sym, ◌∙◌, ap, subst}
 use Rattle.std.specs.List.{list_any}
 use Rattle.std.proofs.lemmas.List.{map_more}
 use Rattle.ogg_command.specs.declared.command.NewStream.{NewStream}
 use Rattle.import_changes.specs.Naming.{AreNamed, IsKept, serials_of}
+use Rattle.std.specs.Map.{keys_of}
+use Rattle.import_changes.proofs.Lacks.{fewer_named}
 use Rattle.import_changes.proofs.Names.{kept_at, kept_next, named_next, serial_at}
 use Rattle.import_changes.proofs.naming.rename_all.Goals as goal
 
@@ -28,4 +30,14 @@ loop-stream-preserved c =
           ∙ sym (map_more (λ (s : NewStream). s.serial) streams i c.stream-item.result c.loop-stream-test.true))
           (named_next given old new (serials_of (take i streams)) serial c.loop-stream.invariant.done c.in-Ok.ensures.names);
       low = c.in-Ok.ensures.low;
+      capacity = omega (arith, c.loop-stream.invariant.capacity, c.rename.ensures.capacity);
     }
+
+pub returns-in-Err-clause-unnamed : goal.returns-in-Err-clause-unnamed
+returns-in-Err-clause-unnamed c =
+    let streams : List NewStream = c.args.streams.now in
+    let names : List (ℕ × ℕ) = c.loop-stream.names.items in
+    subst (λ (l : List (ℕ × ℕ)). length l < length streams) (sym c.in-Err.ensures.unnamed.0)
+    (fewer_named names streams c.loop-stream.stream-index c.stream-item.result c.loop-stream-test.true c.loop-stream.invariant.names.once
+    c.loop-stream.invariant.only
+    (subst (λ (s : NewStream). list_any (nat_eq s.serial) (keys_of names) ≡ false) c.stream-item.is c.in-Err.ensures.unnamed.1))

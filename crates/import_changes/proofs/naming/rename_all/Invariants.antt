@@ -1,4 +1,5 @@
 use Rattle.std.proofs.Common.{take}
+use Rattle.std.specs.Prelude.{◌≤◌, vec_capacity}
 use Rattle.std.specs.List.{AllByRecursion}
 use Rattle.std.specs.Map.{values_of}
 use Rattle.import_changes.specs.Naming.{AreNamed, AreNames, AreOnlyOf, IsKept, IsLow, serials_of}
@@ -11,5 +12,6 @@ invariant-loop-stream l = record {
   kept : AllByRecursion (IsKept l.given.listed l.names.items) (serials_of l.streams);
   only : AreOnlyOf l.names.items (serials_of l.streams);
   low : IsLow l.given.listed (values_of l.names.items) l.low;
+  capacity : vec_capacity l.fn.names ≤ vec_capacity l.names;
   done : AreNamed l.names.items (serials_of (take l.stream-index l.streams));
 }

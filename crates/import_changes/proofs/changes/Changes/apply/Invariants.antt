@@ -1,7 +1,8 @@
-use Rattle.std.proofs.Common.{◌≡◌, ℕ, ◌++◌, List, take}
-use Rattle.std.specs.List.{AllByRecursion}
+use Rattle.std.specs.Prelude.{◌≤◌}
+use Rattle.std.proofs.Common.{◌≡◌, false, ℕ, ◌++◌, List, take}
+use Rattle.std.specs.List.{AllByRecursion, list_any}
 use Rattle.ogg_command.specs.declared.command.Command.{Command}
-use Rattle.import_changes.specs.Changed.{HasChangedBeside, IsPlain}
+use Rattle.import_changes.specs.Changed.{HasChangedBeside, IsPlain, begins}
 use Rattle.import_changes.specs.Steps.{BeginAt}
 use Rattle.import_changes.proofs.Moved.{Moved}
 use Rattle.import_changes.proofs.changes.Changes.apply.Given as goal
@@ -13,5 +14,7 @@ invariant-loop-place l = record {
       → HasChangedBeside taken l.self (before ++ take l.place l.fn.commands.items) (given ++ take l.kept l.commands.items);
   moved : Moved l.fn.commands.items l.commands.items (take l.kept l.commands.items) l.place l.kept;
   options : l.self.options ≡ l.fn.self.options;
+  name_room : l.fn.self.name_room ≤ l.self.name_room;
+  same : list_any begins (take l.place l.fn.commands.items) ≡ false → l.self ≡ l.fn.self;
   times : BeginAt l.fn.utc l.fn.self.options (take l.place l.fn.commands.items) (take l.kept l.commands.items);
 }
