@@ -72,6 +72,9 @@ pub record Gives {D : Type 0} (model : DiskModel D) (old new : HubParts D) (size
   pub again : client.unsent ≢ [] → (new ≡ old) × (after ≡ client) × (take count buffer ≡ take size client.unsent)
   pub pulls : (id : ℕ) → client.unsent ≡ [] → client.stage ≡ SendingOf → client.session ≡ Some id
       → (answer : Result Given HubFault) × Steps (Shows model) old new (λ machine. Pull id size answer) × HasPulled answer client count buffer after
+  -- it is cut only if its session is lost
+  pub cause : (id : ℕ) (machine : HubState) → client.unsent ≡ [] → client.stage ≡ SendingOf → client.session ≡ Some id
+      → Shows model old machine → after.stage ≡ Cut → LosesSession model id machine old new
   pub hears : (machine : HubState) (moment : Moment) (heard : List ℕ) (listener : ListenerState) → client.unsent ≡ [] → client.stage ≡ Hearing
       → Shows model old machine → client.listener ≡ Some listener → (hearing : IsHearing moment machine.committed listener heard)
       → HasHeard moment machine.committed heard hearing.rest size client count buffer after

@@ -1,5 +1,5 @@
 //! What a connection asks for.
-ghost use Rattle.std.specs.Prelude.{◌≡◌, ◌⊎◌, ◌++◌, ℕ, None, Some, IfOk, IfErr, Result};
+ghost use Rattle.std.specs.Prelude.{◌≡◌, ◌⊎◌, ◌++◌, ℕ, None, Some, IfOk, IfErr, Result, true};
 ghost use Rattle.serve_live.specs.Boundaries.{place_to_join};
 ghost use Rattle.serve_live.specs.Listening.{ListenerState};
 ghost use Rattle.serve_clients.specs.declared.client.Stage.TheVariants.{Cut as CutOf, Hearing as HearingOf};
@@ -16,6 +16,8 @@ ghost use Rattle.station_hub.specs.Marking.{Start};
 ghost use Rattle.station_hub.specs.Tracking.{JoinsAt, Tracks};
 ghost use Rattle.serve_clients.specs.Client.{cut_for_memory, with_line, with_stage};
 ghost use Rattle.serve_clients.specs.Line.{moved_on};
+ghost use Rattle.serve_sources.specs.Asking.{is_source};
+ghost use Rattle.serve_sources.specs.declared.asking.Asks.{Asks as AsksOf};
 
 use crate::laws::listeners_join_committed_links;
 use crate::live_hub::LiveHub;
@@ -37,6 +39,9 @@ pub fn notice(client: &mut Client, bytes: &[u8])
 pub fn ask(client: &mut Client, bytes: &[u8]) -> Asks
     ensures client { (client.new ≡ record client.old { head = client.old.head ++ bytes.now }) ⊎ (client.new ≡ cut_for_memory client.old) }
     ensures asks { HasAsked result bytes.now client.old client.new }
+    // A source is known by its method, unless memory was refused.
+    ensures source { is_source (client.old.head ++ bytes.now) ≡ true
+        → (result ≡ AsksOf.Source) ⊎ ((result ≡ AsksOf.More) × (client.new ≡ cut_for_memory client.old)) }
 {
     match client.hear(bytes) {
         Ok(()) => Asks::of(client.head.as_slice()),
