@@ -1,13 +1,14 @@
 -- What becomes of a connection whose bytes have come.
-use Rattle.std.proofs.Common.{◌≡◌, ◌≢◌, ◌⊎◌, ℕ, Bool, true, false, is_some, Option, Some, None, List, ◌++◌, refl, sym, ◌∙◌, ap, subst, inr, inl}
+use Rattle.std.proofs.Common.{◌≡◌, ◌≢◌, ◌⊎◌, ℕ, Bool, true, false, is_some, Option, Some, None, List, [], ◌++◌, refl, sym, ◌∙◌, ap, subst, inr, inl}
 use Rattle.disk_model.specs.declared.disk.Disk.{Ghosts as DiskModel}
 use Rattle.import_changes.specs.declared.options.Skeletons.{Skeletons}
-use Rattle.serve_clients.specs.Client.{ClientState}
+use Rattle.serve_clients.specs.Client.{ClientState, cut_for_memory, with_stage}
 use Rattle.serve_clients.specs.declared.client.Stage.TheVariants.{Feeding, Offering}
 use Rattle.serve_hub.specs.Listening.{KeepsMachine}
 use Rattle.serve_hub.specs.Parts.{HubParts}
 use Rattle.serve_hub.specs.Showing.{Shows}
 use Rattle.serve_sources.specs.Asking.{IsOther, is_source as asks_as_source}
+use Rattle.serve_sources.specs.declared.asking.Asks.{Asks as AsksOf}
 use Rattle.serve_sources.specs.declared.asking.Asks.TheVariants as Asks
 use Rattle.serve_sources.specs.declared.own.OwnResource.{OwnResource}
 use Rattle.serve_sources.specs.declared.password.Password.{Password}
@@ -20,6 +21,7 @@ use Rattle.station.specs.Asked.{Awaits, Connects, GetsOwn, HasCause, IsAnswered,
 use Rattle.station.specs.Beginning.{BeginsBeside, run_in}
 use Rattle.station.specs.Found.{placed}
 use Rattle.station.specs.Keeping.{OthersAirStays}
+use Rattle.station.specs.Offering.{IsOffered, IsSourced}
 use Rattle.station.specs.Passing.{GoesOnAsSource, OffersOn, has_offered, is_source}
 use Rattle.station.proofs.Waited.{found_offered}
 
@@ -51,6 +53,63 @@ pub feeds_on : (slots new : Slab ClientState) (key : ℕ) (client other : Client
     → other.stage ≡ Feeding → other.session ≡ client.session → (after : ClientState) × (get new key ≡ Some after) × GoesOnAsSource client after
 feeds_on slots new key client other is becomes stage session =
     (other, ap (λ (one : Slab ClientState). get one key) becomes ∙ placed slots key client other is, (ap has_offered stage, session))
+
+-- ---- a source that is known by its head
+more_is_cut : (bytes : List ℕ) (one after : ClientState) → asks_as_source (one.head ++ bytes) ≡ true
+    → (asks_as_source (one.head ++ bytes) ≡ true → (Asks.More ≡ Asks.Source) ⊎ ((Asks.More ≡ Asks.More) × (after ≡ cut_for_memory one)))
+    → after ≡ cut_for_memory one
+more_is_cut bytes one after source known = elim (known source) [
+  | inl other ↦ absurd (cc_more other)
+  | inr (same, is) ↦ is
+]
+  where
+    cc_more : Asks.More ≡ Asks.Source → ⊥
+    cc_more e = cc
+
+-- More of it doesn't have to come, but if memory was refused.
+pub more_of_source : (bytes : List ℕ) (client one after : ClientState) → one ≡ moved client → asks_as_source (client.head ++ bytes) ≡ true
+    → (asks_as_source (one.head ++ bytes) ≡ true → (Asks.More ≡ Asks.Source) ⊎ ((Asks.More ≡ Asks.More) × (after ≡ cut_for_memory one)))
+    → after ≡ cut_for_memory (moved client)
+more_of_source bytes client one after is source known =
+    more_is_cut bytes (moved client) after source
+    (subst (λ (it : ClientState). asks_as_source (it.head ++ bytes) ≡ true → (Asks.More ≡ Asks.Source) ⊎ ((Asks.More ≡ Asks.More) × (after ≡ cut_for_memory it))) is known)
+
+-- it asks for nothing else
+pub no_other : (asks : AsksOf) (bytes : List ℕ) (client one after : ClientState) → one ≡ moved client → asks_as_source (client.head ++ bytes) ≡ true
+    → asks ≢ Asks.Source → asks ≢ Asks.More
+    → (asks_as_source (one.head ++ bytes) ≡ true → (asks ≡ Asks.Source) ⊎ ((asks ≡ Asks.More) × (after ≡ cut_for_memory one))) → ⊥
+no_other asks bytes client one after is source not_source not_more known =
+    elim (known (ap (λ (it : ClientState). asks_as_source (it.head ++ bytes)) is ∙ source)) [
+      | inl same ↦ not_source same
+      | inr (more, cut) ↦ not_more more
+    ]
+
+-- its head says what becomes of it
+pub sourced : (key now : ℕ) (bytes : List ℕ) (password : Option Password) (skeletons : Skeletons) (serials : List ℕ) (old new : Option OnAir)
+    (slots : Slab ClientState) (client one asked other : ClientState) (found : Option ClientState) → get slots key ≡ Some client → one ≡ moved client
+    → HasAsked Asks.Source bytes one asked → other ≡ with_stage Offering asked
+    → ((it : ClientState) → get (with_value slots key other) key ≡ Some it → (after : ClientState) × (found ≡ Some after)
+    × IsOffered key [] now password skeletons serials old new it after)
+    → (after : ClientState) × (found ≡ Some after) × IsSourced key bytes now password skeletons serials old new client after
+sourced key now bytes password skeletons serials old new slots client one asked other found is was asks same leads =
+    let (source, becomes) = subst (λ (it : ClientState). HasAsked Asks.Source bytes it asked) was asks in
+    let (after, left, offered) = leads other (placed slots key client other is) in (
+      after,
+      left,
+      inr (subst (λ (it : ClientState). IsOffered key [] now password skeletons serials old new it after) (same ∙ ap (with_stage Offering) becomes) offered),
+    )
+
+pub own_not_source : (resource : OwnResource) (head : Bool) → Asks.Own resource head ≢ Asks.Source
+own_not_source resource head e = cc
+
+pub own_not_more : (resource : OwnResource) (head : Bool) → Asks.Own resource head ≢ Asks.More
+own_not_more resource head e = cc
+
+pub file_not_source : Asks.File ≢ Asks.Source
+file_not_source e = cc
+
+pub file_not_more : Asks.File ≢ Asks.More
+file_not_more e = cc
 
 -- ---- what a head asks for
 module _ {D : Type 0} (model : DiskModel D) where

@@ -1,5 +1,5 @@
 -- What a step leaves of connections.
-use Rattle.std.proofs.Common.{◌≡◌, ◌≢◌, ◌⊎◌, ℕ, true, false, Option, Some, None, List, [], refl, sym, ◌∙◌, ap, subst, inl, inr}
+use Rattle.std.proofs.Common.{◌≡◌, ◌≢◌, ◌⊎◌, ℕ, true, false, is_some, Option, Some, None, List, [], refl, sym, ◌∙◌, ap, subst, inl, inr}
 use Rattle.std.proofs.lemmas.Bool.{cases_Bool}
 use Rattle.std.proofs.lemmas.Bool.Decides.{eqb_tells}
 use Rattle.std.proofs.lemmas.List.{get_or-set_other}
@@ -18,9 +18,13 @@ use Rattle.station.specs.Found.{placed}
 use Rattle.station.specs.Kept.{AreKept, AreLeft, AreTried, AreTurned, InPlace, IsKept, IsLeft, IsTried, MayTurn, OfEach, WasTried}
 use Rattle.station.specs.KeptLaws.{left_self, turned_self}
 use Rattle.station.specs.Offering.{IsOffered, with_more}
-use Rattle.station.specs.Parting.{HasParted}
+use Rattle.station.specs.Parting.{FeederParted, FeederParts, HasParted}
 use Rattle.station.specs.Passing.{ArePassed, GoesOnAsSource, IsPassed, has_offered, is_source}
+use Rattle.station.specs.Stepping.{PartedBy, PartsBy}
 use Rattle.station.specs.Succeeding.{is_waiting, waits}
+use Rattle.station.specs.declared.stepping.Done.{Done}
+use Rattle.station.specs.declared.stepping.Done.TheVariants.{Bytes, Ended, Failed, Flushed, Foreign, GivenUp, Lost, Nothing, Reopened, Stepped}
+use Rattle.station_sources.specs.Air.{foreign_answer, noted, parting_answer}
 use Rattle.station.proofs.Offered.{leads_on}
 use Rattle.station.proofs.Passed.{line_like, parted, waiting}
 
@@ -190,3 +194,28 @@ pub woken_one : (old new : Clients) (key : ℕ) → get old.slots key ≢ None
     → OthersStay key old new → AreTurned old.slots new.slots
 woken_one old new key some turn others =
     one_of (λ at. MayTurn) (λ at. turned_self) old.slots new.slots key others (one_turn old new key (get old.slots key) refl some turn)
+
+-- ---- the one that sent
+turned_on : (new : Option ClientState) (after : ClientState) → InPlace MayTurn (Some after) new → (line : Line) × (new ≡ Some (with_line line after))
+turned_on None after is = absurd is
+turned_on (Some new) after (line, is) = (line, ap (λ (one : ClientState). Some one) is)
+
+feeder_parted : (answer : Option Outcome) (air : OnAir) (old mid new : Slab ClientState) → FeederParts answer air old mid → AreTurned mid new
+    → FeederParted answer air old new
+feeder_parted answer air old mid new parts turned key client feeds is stage =
+    let (after, left, has) = parts key client feeds is stage in
+    let (line, becomes) = turned_on (get new key) after (subst (λ (one : Option ClientState). InPlace MayTurn one (get new key)) left (turned key)) in
+    (after, line, becomes, has)
+
+pub parted_by : (done : Done) (air : OnAir) (old mid new : Slab ClientState) → PartsBy done air old mid → AreTurned mid new → PartedBy done air old new
+parted_by (Ended offset junk taken refused) air old mid new parts turned =
+    feeder_parted (parting_answer (is_some refused) (noted taken air)) air old mid new parts turned
+parted_by (Foreign feeder passed refused) air old mid new parts turned = feeder_parted (foreign_answer air.body) air old mid new parts turned
+parted_by (GivenUp fault refused) air old mid new parts turned = feeder_parted (parting_answer true air) air old mid new parts turned
+parted_by (Stepped step) air old mid new parts turned = tt
+parted_by Bytes air old mid new parts turned = tt
+parted_by (Flushed reply) air old mid new parts turned = tt
+parted_by (Reopened answered) air old mid new parts turned = tt
+parted_by Failed air old mid new parts turned = tt
+parted_by Nothing air old mid new parts turned = tt
+parted_by (Lost fault) air old mid new parts turned = tt

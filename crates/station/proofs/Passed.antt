@@ -1,7 +1,8 @@
 -- What calls leave of connections that they aren't for.
-use Rattle.std.proofs.Common.{◌≡◌, ◌⊎◌, ℕ, true, false, Option, Some, None, refl, sym, ap, subst, inl, inr, Bool}
+use Rattle.std.proofs.Common.{◌≡◌, ◌≢◌, ◌⊎◌, ℕ, true, false, Option, Some, None, refl, sym, ◌∙◌, ap, subst, inl, inr, Bool}
 use Rattle.serve_clients.specs.Client.{ClientState, after_of, with_line, with_stage}
-use Rattle.serve_clients.specs.Clients.{rested, turned_by, turned_in}
+use Rattle.serve_clients.specs.Clients.{HasTurn, rested, turned_by, turned_in, with_turn}
+use Rattle.serve_clients.specs.declared.clients.Clients.{Clients}
 use Rattle.serve_clients.specs.declared.client.After.{After}
 use Rattle.serve_clients.specs.declared.client.After.TheVariants.{Goes, Shuts, Closes}
 use Rattle.serve_clients.specs.declared.line.Line.{Line}
@@ -80,3 +81,29 @@ pub turned_rested : (waiting : Bool) (client after : ClientState) (now : ℕ)
     × (IsLike client (rested waiting client) ⊎ ((after_of client ≡ Shuts) × IsLike (with_stage Closing client) (rested waiting client)))
 turned_rested true client after now = (λ same. resting_like client after now (after_of client) refl same, inl (refl, refl, refl, refl, refl))
 turned_rested false client after now = (λ same. turned_like client after now (after_of client) refl same, inl (refl, refl, refl, refl, refl))
+
+-- ---- since when it is silent
+pub rested_since : (waiting : Bool) (client : ClientState) → (rested waiting client).since ≡ client.since
+rested_since true client = refl
+rested_since false client = refl
+
+in_since : (kind : After) (now : ℕ) (client : ClientState) → kind ≢ Shuts → (turned_in kind now client).since ≡ client.since
+in_since Goes now client goes = refl
+in_since Shuts now client goes = absurd (goes refl)
+in_since Closes now client goes = refl
+
+by_since : (waiting : Bool) (now : ℕ) (client : ClientState) → after_of client ≢ Shuts → (turned_by waiting now client).since ≡ client.since
+by_since waiting now client goes = in_since (after_of client) now (rested waiting client) goes ∙ rested_since waiting client
+
+one_found : (found : Option ClientState) (one other : ClientState) → found ≡ Some one → found ≡ Some other → one.since ≡ other.since
+one_found None one other is same = cc
+one_found (Some client) one other is same = cc
+
+pub turned_since : (waiting : Bool) (now key : ℕ) (client after : ClientState) (old new : Clients) → after_of client ≢ Shuts
+    → HasTurn key (turned_by waiting now client) old new → get new.slots key ≡ Some after → after.since ≡ client.since
+turned_since waiting now key client after old new goes (inl (queued, is, turns)) left =
+    one_found (get new.slots key) after (turned_by waiting now client) left is ∙ by_since waiting now client goes
+turned_since waiting now key client after old new goes (inr (inl (queued, is, turns))) left =
+    one_found (get new.slots key) after (with_turn (turned_by waiting now client)) left is ∙ by_since waiting now client goes
+turned_since waiting now key client after old new goes (inr (inr (queued, is, turns, full))) left =
+    one_found (get new.slots key) after (turned_by waiting now client) left is ∙ by_since waiting now client goes

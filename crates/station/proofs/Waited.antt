@@ -35,6 +35,11 @@ offered_gets model old new size count client after buffer gives is = elim (some_
       (hub, same)
 ]
 
+pub gives_nothing : {D : Type 0} (model : DiskModel D) (old new : HubParts D) (size count : ℕ) (client after : ClientState) (buffer : List ℕ)
+    → Gives model old new size client count buffer after → has_offered client.stage ≡ true → client.unsent ≡ [] → count ≡ 0
+gives_nothing model old new size count client after buffer gives is none =
+    (gives.nothing none (not_sending client.stage is) (not_hearing client.stage is)).0
+
 pub given_offered : (count now : ℕ) (ending : Bool) (client : ClientState) → has_offered client.stage ≡ true → has_offered (given_to count ending now client).stage ≡ true
 given_offered zero now ending client is = ended (is_hearing client.stage && ending)
   where

@@ -4,8 +4,8 @@ use Rattle.httparse.specs.Grammar.{RequestHead}
 use Rattle.httparse.specs.Spans.{name_and_value}
 use Rattle.serve_sources.specs.Credentials.{authorizes}
 use Rattle.import_changes.specs.declared.options.Skeletons.{Skeletons}
-use Rattle.serve_clients.specs.Client.{ClientState, cut, cut_for_memory, told}
-use Rattle.serve_clients.specs.declared.client.Stage.TheVariants.{Feeding, Waiting}
+use Rattle.serve_clients.specs.Client.{ClientState, cut, cut_for_memory, told, with_stage}
+use Rattle.serve_clients.specs.declared.client.Stage.TheVariants.{Feeding, Offering, Waiting}
 use Rattle.serve_sources.specs.Answers.{answer_after, refusal}
 use Rattle.serve_sources.specs.Asking.{HasHead}
 use Rattle.serve_sources.specs.Fields.{only}
@@ -20,7 +20,7 @@ use Rattle.station_sources.specs.Air.{HoldsMore, IsShort}
 use Rattle.station_sources.specs.Beginning.{HasBegun}
 use Rattle.station_sources.specs.declared.air.Feeder.TheVariants.{Peer}
 use Rattle.station_sources.specs.declared.air.OnAir.{OnAir}
-use Rattle.station.specs.Asked.{HasLast}
+use Rattle.station.specs.Asked.{HasLast, heard, moved}
 use Rattle.station.specs.Beginning.{options_for}
 
 -- the head doesn't give the password (RFC 7617)
@@ -83,3 +83,10 @@ IsOffered key bytes now password skeletons serials old new client after =
     ⊎ ((new ≡ old) × (password ≡ None) × (after ≡ cut (with_more bytes client)))
     ⊎ ((secret : Password) × (offer : Offer) × (password ≡ Some secret) × ComesOf secret (client.head ++ bytes) offer
     × Leads key now skeletons serials offer old new (with_more bytes client) after)
+
+-- Its head has come so far with these bytes that it is a source's: what is said of such a head says what becomes of it. If
+-- memory for them is refused it is cut.
+abbrev pub IsSourced : ℕ → List ℕ → ℕ → Option Password → Skeletons → List ℕ → Option OnAir → Option OnAir → ClientState → ClientState → Type 0
+IsSourced key bytes now password skeletons serials old new client after =
+    ((new ≡ old) × (after ≡ cut_for_memory (moved client)))
+    ⊎ IsOffered key [] now password skeletons serials old new (with_stage Offering (heard bytes client)) after

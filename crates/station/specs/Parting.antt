@@ -1,7 +1,8 @@
 -- A source that leaves the air. Ours.
 use Rattle.std.specs.Prelude.{◌≡◌, ◌⊎◌, ℕ, Option, Some, None}
-use Rattle.serve_clients.specs.Client.{ClientState, cut_for_memory, told, with_stage}
+use Rattle.serve_clients.specs.Client.{ClientState, cut_for_memory, told, with_line, with_stage}
 use Rattle.serve_clients.specs.declared.client.Stage.TheVariants.{Ending, Feeding}
+use Rattle.serve_clients.specs.declared.line.Line.{Line}
 use Rattle.serve_sources.specs.Answers.{answer_after}
 use Rattle.serve_sources.specs.declared.outcome.Outcome.{Outcome}
 use Rattle.slab.specs.Slab.{Slab, get}
@@ -18,3 +19,9 @@ abbrev pub FeederParts : Option Outcome → OnAir → Slab ClientState → Slab 
 FeederParts answer air old new =
     (key : ℕ) (client : ClientState) → air.feeder ≡ Peer key → get old key ≡ Some client → client.stage ≡ Feeding
     → (after : ClientState) × (get new key ≡ Some after) × HasParted answer client after
+
+-- the same, and it may have got a turn since
+abbrev pub FeederParted : Option Outcome → OnAir → Slab ClientState → Slab ClientState → Type 0
+FeederParted answer air old new =
+    (key : ℕ) (client : ClientState) → air.feeder ≡ Peer key → get old key ≡ Some client → client.stage ≡ Feeding
+    → (after : ClientState) × (line : Line) × (get new key ≡ Some (with_line line after)) × HasParted answer client after

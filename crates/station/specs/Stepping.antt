@@ -23,7 +23,7 @@ use Rattle.station_sources.specs.Taking.{TakesEnd, TakesStep}
 use Rattle.station_sources.specs.declared.air.OnAir.{OnAir}
 use Rattle.station_sources.specs.declared.counting.Counts.{Counts}
 use Rattle.station.specs.Beginning.{BeginsBeside}
-use Rattle.station.specs.Parting.{FeederParts}
+use Rattle.station.specs.Parting.{FeederParted, FeederParts}
 use Rattle.station.specs.Succeeding.{IsSucceeded}
 use Rattle.station.specs.declared.stepping.Done.{Done}
 use Rattle.station.specs.declared.stepping.Done.TheVariants.{Bytes, Ended, Failed, Flushed, Foreign, GivenUp, Lost, Reopened, Stepped}
@@ -130,6 +130,13 @@ PartsBy (Ended offset junk taken refused) air old new = FeederParts (parting_ans
 PartsBy (Foreign feeder passed refused) air old new = FeederParts (foreign_answer air.body) air old new
 PartsBy (GivenUp fault refused) air old new = FeederParts (parting_answer true air) air old new
 PartsBy done air old new = ⊤
+
+-- the same, and its connection may have got a turn since
+abbrev pub PartedBy : Done → OnAir → Slab ClientState → Slab ClientState → Type 0
+PartedBy (Ended offset junk taken refused) air old new = FeederParted (parting_answer (is_some refused) (noted taken air)) air old new
+PartedBy (Foreign feeder passed refused) air old new = FeederParted (foreign_answer air.body) air old new
+PartedBy (GivenUp fault refused) air old new = FeederParted (parting_answer true air) air old new
+PartedBy done air old new = ⊤
 
 -- If the source has left the air, it was offered to those that waited for it, in turn, until one of them had it.
 abbrev pub IsSucceededBy : Done → Slab ClientState → Slab ClientState → Option OnAir → Type 0

@@ -1,5 +1,5 @@
 //! Spare places: connections that come when there are as many as may be are asked first what they want.
-ghost use Rattle.std.specs.Prelude.{◌≡◌, ◌≢◌, ◌⊎◌, ◌++◌, ◌∷◌, [], ℕ, None, Some, Err, IfOk, IfErr};
+ghost use Rattle.std.specs.Prelude.{◌≡◌, ◌≢◌, ◌⊎◌, ◌++◌, ◌∷◌, [], ℕ, None, Some, Err, IfOk, IfErr, true};
 ghost use Rattle.slab.specs.Slab.{get};
 ghost use Rattle.serve_clients.specs.Client.{ClientState, fresh};
 ghost use Rattle.serve_clients.specs.Clients.{OthersStay};
@@ -7,7 +7,9 @@ ghost use Rattle.serve_hub.specs.Parts.{serials_in};
 ghost use Rattle.station_sources.specs.Counting.{counted};
 ghost use Rattle.station.specs.Asked.{HasLast};
 ghost use Rattle.station.specs.Beginning.{BeginsBeside, run_in};
+ghost use Rattle.serve_sources.specs.Asking.{is_source as asks_as_source};
 ghost use Rattle.station.specs.Keeping.{OthersAirStays};
+ghost use Rattle.station.specs.Offering.{IsSourced};
 ghost use Rattle.station.specs.Spare.{IsAnsweredInSpare, IsAskedInSpare, is_spare};
 ghost use Rattle.station.specs.declared.station.Unaccepted.{Unaccepted as UnacceptedOf};
 ghost use Rattle.station.specs.Clocks.{KeepsClocks};
@@ -69,6 +71,10 @@ impl<D: Disk + Drop> Station<D> {
             × IsAskedInSpare self.old.options.password bytes.now client after }
         ensures live { self.new.live ≡ self.old.live }
         ensures air { OthersAirStays (Feeder.Peer key) self.old.air self.new.air }
+        ensures sourced { (client : ClientState) → get self.old.clients.slots key ≡ Some client
+            → asks_as_source (client.head ++ bytes.now) ≡ true → self.old.options.password ≢ None
+            → (after : ClientState) × (get self.new.clients.slots key ≡ Some after) × IsSourced key bytes.now now self.old.options.password
+            self.old.options.skeletons (serials_in self.old.live.hub.file) self.old.air self.new.air client after }
         ensures begins { self.old.air ≡ None → BeginsBeside (serials_in self.old.live.hub.file) self.old.options.skeletons (run_in self.new.air) }
         ensures others { OthersStay key self.old.clients self.new.clients }
         ensures clocks { KeepsClocks self.old self.new }

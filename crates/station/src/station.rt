@@ -29,7 +29,8 @@ ghost use Rattle.station.specs.Spare.{IsAskedIn, is_another, is_spare};
 ghost use Rattle.std.specs.List.{filter};
 ghost use Rattle.station.specs.Clocks.{KeepsClocks, clocks_of, ended_with_input};
 ghost use Rattle.station.specs.Ending.{is_over};
-ghost use Rattle.station.specs.Offering.{IsOffered};
+ghost use Rattle.serve_sources.specs.Asking.{is_source as asks_as_source};
+ghost use Rattle.station.specs.Offering.{IsOffered, IsSourced};
 ghost use Rattle.station.specs.Passing.{GoesOnAsSource, IsLike, OffersOn, expects_nothing, is_source, session_in};
 ghost use Rattle.station.specs.Opening.{IsBegun, IsIdle};
 ghost use Rattle.station.specs.Turning.{IsTurnedAway, half_closed};
@@ -310,6 +311,11 @@ impl<D: Disk + Drop> Station<D> {
         ensures heard { (client : ClientState) → get self.old.clients.slots key ≡ Some client → client.stage ≡ FeedingOf
             → get self.new.clients.slots key ≡ Some (record client { since = now; line = moved_on client.line }) }
         ensures air { OthersAirStays (Feeder.Peer key) self.old.air self.new.air }
+        // A head that is a source's, with these bytes, says what becomes of it.
+        ensures sourced { (client : ClientState) → get self.old.clients.slots key ≡ Some client → client.stage ≡ AskingOf
+            → asks_as_source (client.head ++ bytes.now) ≡ true → self.old.options.password ≢ None
+            → (after : ClientState) × (get self.new.clients.slots key ≡ Some after) × IsSourced key bytes.now now self.old.options.password
+            self.old.options.skeletons (serials_in self.old.live.hub.file) self.old.air self.new.air client after }
         ensures begins { self.old.air ≡ None → BeginsBeside (serials_in self.old.live.hub.file) self.old.options.skeletons (run_in self.new.air) }
         ensures others { OthersStay key self.old.clients self.new.clients }
         ensures clocks { KeepsClocks self.old self.new }
@@ -332,6 +338,10 @@ impl<D: Disk + Drop> Station<D> {
         ensures disk { (self.new.live.hub.file ≡ self.old.live.hub.file) ⊎ IfFile (Reads D.Disk) self.old.live.hub.file self.new.live.hub.file }
         ensures recorded { StaysLive D.Disk self.old.live self.new.live }
         ensures air { OthersAirStays (Feeder.Peer key) self.old.air self.new.air }
+        ensures sourced { (client : ClientState) → get self.old.clients.slots key ≡ Some client
+            → asks_as_source (client.head ++ bytes.now) ≡ true → self.old.options.password ≢ None
+            → (after : ClientState) × (get self.new.clients.slots key ≡ Some after) × IsSourced key bytes.now now self.old.options.password
+            self.old.options.skeletons (serials_in self.old.live.hub.file) self.old.air self.new.air client after }
         ensures begins { self.old.air ≡ None → BeginsBeside (serials_in self.old.live.hub.file) self.old.options.skeletons (run_in self.new.air) }
         ensures others { OthersStay key self.old.clients self.new.clients }
         ensures clocks { KeepsClocks self.old self.new }
@@ -351,6 +361,10 @@ impl<D: Disk + Drop> Station<D> {
         ensures disk { (self.new.live.hub.file ≡ self.old.live.hub.file) ⊎ IfFile (Reads D.Disk) self.old.live.hub.file self.new.live.hub.file }
         ensures recorded { StaysLive D.Disk self.old.live self.new.live }
         ensures air { OthersAirStays (Feeder.Peer key) self.old.air self.new.air }
+        ensures sourced { (client : ClientState) → get self.old.clients.slots key ≡ Some client
+            → asks_as_source (client.head ++ bytes.now) ≡ true → self.old.options.password ≢ None
+            → (after : ClientState) × (get self.new.clients.slots key ≡ Some after) × IsSourced key bytes.now now self.old.options.password
+            self.old.options.skeletons (serials_in self.old.live.hub.file) self.old.air self.new.air client after }
         ensures begins { self.old.air ≡ None → BeginsBeside (serials_in self.old.live.hub.file) self.old.options.skeletons (run_in self.new.air) }
         ensures others { OthersStay key self.old.clients self.new.clients }
         ensures clocks { KeepsClocks self.old self.new }
@@ -489,6 +503,8 @@ impl<D: Disk + Drop> Station<D> {
             × (get self.new.clients.slots key ≡ Some (given result (is_over self.old.air self.old.ending) now after)) }
         ensures goes_on { (client : ClientState) → get self.old.clients.slots key ≡ Some client → client.stage ≡ WaitingOf → is_refused client now ≡ false
             → get self.new.clients.slots key ≡ Some (given result (is_over self.old.air self.old.ending) now client) }
+        ensures silent { (client : ClientState) → get self.old.clients.slots key ≡ Some client → client.stage ≡ WaitingOf → is_refused client now ≡ false
+            → client.unsent ≡ [] → result ≡ 0 }
         ensures waits { (client : ClientState) → get self.old.clients.slots key ≡ Some client → client.stage ≡ WaitingOf → (after : ClientState)
             × (get self.new.clients.slots key ≡ Some after) × GoesOnAsSource client after × (self.new.live.hub ≡ self.old.live.hub) }
         ensures none { get self.old.clients.slots key ≡ None → (get self.new.clients.slots key ≡ None) × (self.new.live.hub ≡ self.old.live.hub) }

@@ -23,7 +23,7 @@ ghost use Rattle.station.specs.Passing.{ArePassed};
 ghost use Rattle.station_hub.specs.Live.{RecordsLive};
 ghost use Rattle.station_sources.specs.declared.air.OnAir.{OnAir as OnAirOf};
 ghost use Rattle.station_hub.specs.Patience.{is_due, until_due};
-ghost use Rattle.station.specs.Stepping.{BeginsBy, FreesBy, GoesOnWithLoss, HasFlushed, IsSucceededBy, IsTurnedAway, NothingPends, PartsBy, RestsBy, RestsUnless, TakesFromSource, only_refused, reopens, with_done};
+ghost use Rattle.station.specs.Stepping.{BeginsBy, FreesBy, GoesOnWithLoss, HasFlushed, IsSucceededBy, IsTurnedAway, NothingPends, PartedBy, PartsBy, RestsBy, RestsUnless, TakesFromSource, only_refused, reopens, with_done};
 ghost use Rattle.station.specs.Succeeding.{IsSucceeded, SameWait};
 ghost use Rattle.serve_hub.specs.Showing.{Shows};
 ghost use Rattle.serve_machine.specs.Hub.{HubState};
@@ -110,6 +110,8 @@ impl<D: Disk + Drop> Station<D> {
         // What is recorded of a source is what import_record says of its bytes.
         ensures takes { (air : OnAirOf) → self.old.air ≡ Some air
             → TakesFromSource D.Disk result air self.new.air self.old.live self.new.live }
+        // What the connection of a source that leaves the air is told says what became of its stream.
+        ensures parts { (air : OnAirOf) → self.old.air ≡ Some air → PartedBy result air self.old.clients.slots self.new.clients.slots }
         // A source that isn't Ogg leaves the air before anything else is taken of it.
         ensures foreign { (air : OnAirOf) (machine : HubState) → self.old.air ≡ Some air → Shows D.Disk self.old.live.hub machine
             → failed_in self.old.live.hub.file ≡ false → is_due machine.waiting self.old.waiting_since now ≡ false

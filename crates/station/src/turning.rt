@@ -134,6 +134,9 @@ impl<D: Disk + Drop> Station<D> {
         // It is as it was, or is told that no more comes.
         ensures stays { (client : ClientState) → get self.old.clients.slots key ≡ Some client → (after : ClientState) × (get self.new.clients.slots key ≡ Some after)
             × (IsLike client after ⊎ ((after_of client ≡ Shuts) × IsLike (with_stage ClosingOf client) after)) }
+        // Only then does it begin to be waited for anew.
+        ensures since { (client after : ClientState) → get self.old.clients.slots key ≡ Some client → after_of client ≢ Shuts
+            → get self.new.clients.slots key ≡ Some after → after.since ≡ client.since }
         ensures others { OthersStay key self.old.clients self.new.clients }
         ensures live { self.new.live ≡ self.old.live }
         ensures air { self.new.air ≡ self.old.air }

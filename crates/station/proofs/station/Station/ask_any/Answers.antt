@@ -24,3 +24,9 @@ returns-else-is_spare-clause-asks g c client is =
       subst (λ (b : Bool). IsAskedIn g.D.Disk b old.options.password old.live.places c.args.bytes.now old.live.hub new.live.hub client after)
           (sym (sym c.is_spare.ensures ∙ c.if-is_spare.false)) asked,
     )
+
+pub returns-then-is_spare-clause-sourced : goal.returns-then-is_spare-clause-sourced
+returns-then-is_spare-clause-sourced g c = c.ask_in_spare.ensures.sourced
+
+pub returns-else-is_spare-clause-sourced : goal.returns-else-is_spare-clause-sourced
+returns-else-is_spare-clause-sourced g c = c.ask_on.ensures.sourced

@@ -1,12 +1,14 @@
 use Rattle.std.proofs.Common.{◌≡◌, refl, sym, ◌∙◌, ap, inl, inr}
 use Rattle.serve_hub.specs.Parts.{serials_in}
-use Rattle.serve_clients.specs.Client.{ClientState}
+use Rattle.serve_clients.specs.Client.{ClientState, with_stage}
+use Rattle.serve_clients.specs.declared.client.Stage.TheVariants.{Offering}
 use Rattle.station_hub.specs.declared.live_hub.LiveHub.{LiveHub}
 use Rattle.station_sources.specs.declared.air.Feeder.TheVariants.{Peer}
 use Rattle.slab.specs.Slab.{get}
 use Rattle.station.specs.Asked.{moved}
 use Rattle.station.specs.Found.{placed, same_client}
-use Rattle.station.proofs.Asked.{air_stays, awaits, begins_none, connects_other, connects_source, gets_own, is_set, is_unset, offers}
+use Rattle.serve_sources.specs.declared.asking.Asks.TheVariants as Asks
+use Rattle.station.proofs.Asked.{air_stays, awaits, begins_none, connects_other, connects_source, file_not_more, file_not_source, gets_own, is_set, is_unset, more_of_source, no_other, offers, own_not_more, own_not_source, sourced}
 use Rattle.station.proofs.Offered.{others_placed}
 use Rattle.station.proofs.station.Station.ask_on.Goals as goal
 
@@ -149,3 +151,38 @@ returns-in-Source-clause-begins g c = c.offer.ensures.begins
 
 pub returns-in-Source-clause-others : goal.returns-in-Source-clause-others
 returns-in-Source-clause-others g c other apart = c.offer.ensures.others other apart ∙ others_placed c.args.self.now.clients.slots c.args.key _ other apart
+
+-- ---- a source
+pub returns-in-More-clause-sourced : goal.returns-in-More-clause-sourced
+returns-in-More-clause-sourced g c client is source set =
+    let same : c.in-Some.client.now ≡ client = same_client c.in-Some.client.now client (c.in-Some.ensures.value ∙ is) in
+    let new = c.ask.new.client in (
+      new,
+      placed c.args.self.now.clients.slots c.args.key client new is,
+      inl (refl, more_of_source c.args.bytes.now client c.notice.new.client new (c.notice.ensures ∙ ap moved same) source c.in-More.ensures.source),
+    )
+
+pub returns-in-Source-clause-sourced : goal.returns-in-Source-clause-sourced
+returns-in-Source-clause-sourced g c client is source set =
+    let same : c.in-Some.client.now ≡ client = same_client c.in-Some.client.now client (c.in-Some.ensures.value ∙ is) in
+    let old = c.args.self.now in
+    let new = c.offer.new.self in
+    sourced c.args.key c.args.now c.args.bytes.now old.options.password old.options.skeletons (serials_in old.live.hub.file) old.air new.air old.clients.slots client
+    c.notice.new.client c.ask.new.client _ (get new.clients.slots c.args.key) is (c.notice.ensures ∙ ap moved same) c.in-Source.ensures.asks
+    (ap (with_stage Offering) c.client.view_is) c.offer.ensures.leads
+
+pub returns-in-Own-clause-sourced : goal.returns-in-Own-clause-sourced
+returns-in-Own-clause-sourced g c client is source set =
+    let same : c.in-Some.client.now ≡ client = same_client c.in-Some.client.now client (c.in-Some.ensures.value ∙ is) in
+    absurd (no_other (Asks.Own c.in-Own.resource c.in-Own.head) c.args.bytes.now client c.notice.new.client c.ask.new.client (c.notice.ensures ∙ ap moved same) source
+    (own_not_source c.in-Own.resource c.in-Own.head) (own_not_more c.in-Own.resource c.in-Own.head) c.in-Own.ensures.source)
+
+pub returns-in-Source-2-clause-sourced : goal.returns-in-Source-2-clause-sourced
+returns-in-Source-2-clause-sourced g c client is source set =
+    absurd (set (is_unset c.args.self.now.options.password (sym c.is_some.ensures ∙ c.if-is_some.false)))
+
+pub returns-in-File-clause-sourced : goal.returns-in-File-clause-sourced
+returns-in-File-clause-sourced g c client is source set =
+    let same : c.in-Some.client.now ≡ client = same_client c.in-Some.client.now client (c.in-Some.ensures.value ∙ is) in
+    absurd (no_other Asks.File c.args.bytes.now client c.notice.new.client c.ask.new.client (c.notice.ensures ∙ ap moved same) source
+    file_not_source file_not_more c.in-File.ensures.source)

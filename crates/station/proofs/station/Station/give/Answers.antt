@@ -13,6 +13,7 @@ returns-clause-gives g c client is =
           (record {
             again = c.give-count.ensures.again;
             pulls = c.give-count.ensures.pulls;
+            cause = c.give-count.ensures.cause;
             hears = c.give-count.ensures.hears;
             lost = c.give-count.ensures.lost;
             nothing = c.give-count.ensures.nothing;

@@ -9,7 +9,7 @@ use Rattle.station_hub.specs.Giving.{Gives}
 use Rattle.station.specs.Ending.{is_over}
 use Rattle.station.specs.Passing.{OffersOn, has_offered, is_source}
 use Rattle.station.specs.PassingLaws.{given_session}
-use Rattle.station.proofs.Waited.{found_offered, given_offered, offered_gets}
+use Rattle.station.proofs.Waited.{found_offered, given_offered, gives_nothing, offered_gets}
 use Rattle.station.proofs.station.Station.next.Goals as goal
 
 pub returns-clause-gives : goal.returns-clause-gives
@@ -61,3 +61,9 @@ returns-clause-goes_on g c client is waits isnt =
     let (hub, same) = offered_gets g.D.Disk mid.live.hub new.live.hub (length c.args.buffer.now) c.give.result client after c.give.new.buffer gives (ap has_offered waits) in
     left ∙ ap (λ (it : ClientState). Some (given c.give.result (is_over mid.air mid.ending) c.args.now it)) same
     ∙ ap (λ s. Some (given c.give.result (is_over s.air s.ending) c.args.now client)) stays
+
+pub returns-clause-silent : goal.returns-clause-silent
+returns-clause-silent g c client is waits isnt none =
+    let stays = c.refuse_if_waited.ensures.rest client is isnt in
+    let (after, gives, left) = c.give.ensures.gives client (ap (λ s. get s.clients.slots c.args.key) stays ∙ is) in
+    gives_nothing g.D.Disk c.refuse_if_waited.new.self.live.hub c.give.new.self.live.hub (length c.args.buffer.now) c.give.result client after c.give.new.buffer gives (ap has_offered waits) none

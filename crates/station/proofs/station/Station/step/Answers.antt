@@ -10,7 +10,7 @@ use Rattle.station.specs.Kept.{AreTurned}
 use Rattle.station.specs.Stepping.{BeginsBy, FreesBy, GoesOnWithLoss, IsSucceededBy, RestsBy, TakesFromSource}
 use Rattle.station.specs.Succeeding.{HaveTurns}
 use Rattle.station.proofs.Counted.{done_counts}
-use Rattle.station.proofs.Kept.{all_pass, kept_then_turned, turned_then}
+use Rattle.station.proofs.Kept.{all_pass, kept_then_turned, parted_by, turned_then}
 use Rattle.station.proofs.Succeeding.{still_by, turns_then}
 use Rattle.station.proofs.station.Station.step.Given.{Over}
 use Rattle.station.proofs.station.Station.step.Goals as goal
@@ -156,3 +156,11 @@ returns-clause-rest g c = (
         | else-end w ↦ ap (λ s. streams_in s.counts) w.self-is ∙ ap (λ s. streams_in s.counts) c.count.ensures
       ] ∙ done_counts c.step_once-done.result c.step_once-done.new.self.counts c.args.self.now.counts (ap (λ (k : Clocks). k.streams) c.step_once-done.ensures.clocks),
 )
+
+pub returns-clause-parts : goal.returns-clause-parts
+returns-clause-parts g c air is =
+    let mid = c.step_once-done.new.self.clients in
+    parted_by c.step_once-done.result air c.args.self.now.clients.slots mid.slots c.wake_feeder.new.self.clients.slots (c.step_once-done.ensures.parts air is)
+    (turned_then mid.slots c.wake_listeners.new.self.clients.slots c.wake_feeder.new.self.clients.slots
+    (subst (λ (clients : Clients). AreTurned clients.slots c.wake_listeners.new.self.clients.slots) (clients_are g c) c.wake_listeners.ensures.turned)
+    c.wake_feeder.ensures.turned)

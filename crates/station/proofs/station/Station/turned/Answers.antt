@@ -1,10 +1,12 @@
-use Rattle.std.proofs.Common.{◌≡◌, Bool, Some, subst, inl, inr}
+use Rattle.std.proofs.Common.{◌≡◌, Bool, Some, sym, ◌∙◌, ap, subst, inl, inr}
+use Rattle.serve_clients.specs.Client.{ClientState}
 use Rattle.std.proofs.lemmas.Bool.{cases_Bool}
 use Rattle.serve_clients.specs.Clients.{HasTurn, goes_again, rested, turned_by}
 use Rattle.slab.specs.Slab.{get}
 use Rattle.station.specs.PassingLaws.{has_turn}
 use Rattle.station.specs.Turning.{GoesOn}
-use Rattle.station.proofs.Passed.{turned_rested}
+use Rattle.station.specs.Found.{same_client}
+use Rattle.station.proofs.Passed.{rested_since, turned_rested, turned_since}
 use Rattle.station.proofs.Turned.{goes_on, rests}
 use Rattle.station.proofs.station.Station.turned.Goals as goal
 
@@ -31,3 +33,15 @@ returns-clause-stays g c client is = elim (cases_Bool (goes_again c.reads-reads.
   | inr rest ↦
       (rested c.waits_for_more-rests.result client, (c.turned.ensures.rests client is rest).0, (turned_rested c.waits_for_more-rests.result client client c.args.now).1)
 ]
+
+pub returns-clause-since : goal.returns-clause-since
+returns-clause-since g c client after is goes left =
+    let rests = c.waits_for_more-rests.result in
+    elim (cases_Bool (goes_again c.reads-reads.result rests client)) [
+      | inl again ↦
+          turned_since rests c.args.now c.args.key client after c.args.self.now.clients c.turned.new.self goes
+          (c.turned.ensures.again client is again) left
+      | inr rest ↦
+          ap (λ (it : ClientState). it.since) (same_client after (rested rests client) (sym left ∙ (c.turned.ensures.rests client is rest).0))
+          ∙ rested_since rests client
+    ]
