@@ -52,7 +52,8 @@ fn as_of_now(state: &StreamState) -> JoinedStream
 
 /// The streams as all their pages leave them.
 pub fn streams_of_now(alloc: Global, states: &[StreamState]) -> Result<Vec<JoinedStream>, Memory>
-    ensures { IfOk result (λ streams. streams.items ≡ map as_of_now states.now) }
+    ensures streams { IfOk result (λ streams. streams.items ≡ map as_of_now states.now) }
+    ensures full { OnErr result (0 < length states.now) }
 {
     let mut streams = Vec::new(alloc);
     for state in states {
@@ -134,7 +135,8 @@ fn gap_between(stream: &JoinedStream) -> StreamGap
 
 /// The streams' gaps.
 pub fn gaps_of(alloc: Global, streams: &[JoinedStream]) -> Result<Vec<StreamGap>, Memory>
-    ensures { IfOk result (λ gaps. gaps.items ≡ map gap_between streams.now) }
+    ensures gaps { IfOk result (λ gaps. gaps.items ≡ map gap_between streams.now) }
+    ensures full { OnErr result (0 < length streams.now) }
 {
     let mut gaps = Vec::new(alloc);
     for stream in streams {

@@ -87,7 +87,8 @@ fn add_end(stream: &JoinedStream, text: &mut Vec<u8>) -> Result<(), Memory>
 
 /// The pages that end the streams that ended unheard.
 fn ends_of(alloc: Global, streams: &[JoinedStream]) -> Result<Vec<u8>, Memory>
-    ensures { IfOk result (λ text. text.items ≡ bytes_of_pages (ends_of streams.now)) }
+    ensures text { IfOk result (λ text. text.items ≡ bytes_of_pages (ends_of streams.now)) }
+    ensures full { OnErr result (0 < length streams.now) }
 {
     let mut text = Vec::new(alloc);
     for stream in streams {
@@ -131,7 +132,8 @@ fn new_listener(
     place: JoinPlace,
     streams: &[JoinedStream],
 ) -> Result<Listener, Memory>
-    ensures { IfOk result (λ listener. IsNew place.begin (place.begun - place.begin) place.boundary streams.now listener) }
+    ensures new { IfOk result (λ listener. IsNew place.begin (place.begun - place.begin) place.boundary streams.now listener) }
+    ensures full { OnErr result (0 < length streams.now) }
 {
     let text = ends_of(alloc, streams)?;
     let gaps = gaps_of(alloc, streams)?;
@@ -152,7 +154,7 @@ fn new_listener(
 impl Listener {
     /// A listener that joins the last link at a place. The committed bytes end at `end`, and `states` are those of the
     /// link's streams there. Of the pages of the link's beginning and of those since the boundary the heads are read.
-    /// Memory is taken for the streams, and for a page for each stream that ended unheard.
+    /// Memory is taken for the streams, and for a page for each stream that ended unheard: none if there are no streams.
     pub fn join<S: PageSource>(
         alloc: Global,
         source: &mut S,
@@ -169,6 +171,8 @@ impl Listener {
             → S.bytes source.old ≡ committed ++ more → length committed ≡ end → AreLinks committed links
             → states.now ≡ (chain_state_of links).streams → IsPlaceIn links moment place
             → result ≡ Err JoinFault.Source → HasFailed (S.failures source.old) (S.failures source.new) }
+        // Memory is taken for the streams alone.
+        ensures memory { result ≡ Err JoinFault.Memory → 0 < length states.now }
         ensures later { S.failures source.old ≤ S.failures source.new }
         ensures source { KeepsSource S.bytes S.is_honest S.size S.only_reads source.old source.new }
     {
