@@ -1,5 +1,5 @@
 //! A connection, and how far it has come.
-ghost use Rattle.std.specs.Prelude.{◌≡◌, ◌≢◌, ◌⊎◌, ◌++◌, [], Some, drop, OnOk, OnErr};
+ghost use Rattle.std.specs.Prelude.{◌≡◌, ◌≢◌, ◌⊎◌, ◌++◌, [], Some, drop, IsOk, OnOk, OnErr};
 ghost use Rattle.serve_clients.specs.Clients.{goes_again, rested, unwritten_by};
 ghost use Rattle.serve_clients.specs.Client.{ClientState, HasWritten, after_of, cut_for_memory, fresh, given, memory_refused, moved_if, told, with_line, with_stage};
 ghost use Rattle.serve_texts.specs.Player.{player_response};
@@ -118,6 +118,7 @@ impl Client {
     pub fn hear(&mut self, bytes: &[u8]) -> Result<(), Memory>
         ensures ok { OnOk result (self.new ≡ record self.old { head = self.old.head ++ bytes.now }) }
         ensures err { OnErr result (self.new ≡ memory_refused self.old) }
+        ensures none { bytes.now ≡ [] → IsOk result }
     {
         self.grower.append(&mut self.head, bytes)
     }
@@ -126,6 +127,7 @@ impl Client {
     pub fn tell(&mut self, text: &[u8]) -> Result<(), Memory>
         ensures ok { OnOk result (self.new ≡ told text.now self.old) }
         ensures err { OnErr result (self.new ≡ memory_refused self.old) }
+        ensures none { text.now ≡ [] → IsOk result }
     {
         if self.unsent().is_empty() {
             self.rest.clear();
@@ -196,10 +198,12 @@ impl Client {
     }
 
     /// The first `count` of the bytes that were given were written: those that couldn't be written before, or these if
-    /// there were none. What is left is kept; if memory for it is refused, the connection is cut.
+    /// there were none. What is left is kept; if memory for it is refused, the connection is cut. If nothing is left, none
+    /// is taken.
     pub fn wrote(&mut self, bytes: &[u8], count: usize)
         ensures again { self.old.unsent ≢ [] → self.new ≡ record self.old { unsent = drop count self.old.unsent } }
         ensures anew { self.old.unsent ≡ [] → (self.new ≡ record self.old { unsent = drop count bytes.now }) ⊎ (self.new ≡ cut_for_memory self.old) }
+        ensures whole { self.old.unsent ≡ [] → drop count bytes.now ≡ [] → self.new ≡ self.old }
         ensures written { HasWritten bytes.now count self.old self.new }
     {
         if !self.unsent().is_empty() {
