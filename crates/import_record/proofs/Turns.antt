@@ -7,7 +7,7 @@ use Rattle.ogg_command.specs.declared.command.Command.{Command}
 use Rattle.ogg_command.specs.declared.command.Command.TheVariants.{Begin, Put, End}
 use Rattle.feed_records.specs.declared.item.Record.{Record}
 use Rattle.feed_replies.specs.declared.reply.Reply.{Reply}
-use Rattle.import_changes.specs.Changed.{ChangeState, HasChangedBeside, IsPlain}
+use Rattle.import_changes.specs.Changed.{Become, ChangeState, HasChangedBeside, IsPlain}
 use Rattle.feed_runner.specs.Answering.{AnswersAll}
 use Rattle.feed_runner.specs.Counting.{commands_in}
 use Rattle.feed_runner.specs.Laws.InTurn.{answers_both}
@@ -18,7 +18,7 @@ use Rattle.import_mend.specs.declared.mend.Mend.{Mend}
 use Rattle.import_record.specs.Running.{records_of}
 use Rattle.import_record.specs.Begun.{BegunState, streams_after}
 use Rattle.import_record.specs.Resuming.{ResumesIf, ends_of, holds_open, link_again}
-use Rattle.import_record.specs.Steps.{Become, IntakeState}
+use Rattle.import_record.specs.Steps.{IntakeState}
 use Rattle.import_record.proofs.Kept.{streams_both}
 use Rattle.import_record.specs.Whole.{Done, Event, GivesOn, GoOn, Records, pages_in}
 use Rattle.import_record.specs.Whole.Event.{Flushing, Taking, Resuming}

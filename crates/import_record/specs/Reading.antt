@@ -74,10 +74,10 @@ abbrev pub LacksMemoryFor : ImportRun → ImportRun → ℕ → Type 0
 LacksMemoryFor old new room =
     LacksMemory new.input.gatherer room
     ⊎ ((at : LentAt) × (mend : Option Mend) × (more : List Command)
-    × TakesPage at.0 at.1 (state_of old).mending (state_of new).mending mend more × BeginsLink old.changes new.changes more)
+    × TakesPage at.0 at.1 (state_of old).mending (state_of new).mending mend more × BeginsLink more)
 
 -- the same of the commands that end what is open, and of those that waited
 abbrev pub LacksMemoryAtEnd : ImportRun → ImportRun → ℕ → Type 0
 LacksMemoryAtEnd old new room =
     LacksMemory new.input.gatherer room
-    ⊎ ((more : List Command) × GivesEnd old.input.gatherer new.input.gatherer more × BeginsLink old.changes new.changes more)
+    ⊎ ((more : List Command) × GivesEnd old.input.gatherer new.input.gatherer more × BeginsLink more)

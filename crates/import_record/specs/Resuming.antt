@@ -69,3 +69,7 @@ ResumesIf false streams taken old new commands = (given : List Command) × Begin
 -- The file's last link has these streams, and the file has these serials.
 abbrev pub Resumes : List StreamState → List ℕ → IntakeState → IntakeState → List Command → Type 0
 Resumes streams taken old new commands = ResumesIf (holds_open streams old.begun.serials) streams taken old new commands
+
+-- The file has each stream open that the input has begun and hasn't ended, and no other: nothing is to be run.
+abbrev pub IsAsBefore : List StreamState → List ℕ → Type 0
+IsAsBefore streams ours = (holds_open streams ours ≡ true) × (ends_of ours streams ≡ [])

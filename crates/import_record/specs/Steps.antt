@@ -1,11 +1,11 @@
 -- What a step of a recording does. Ours.
-use Rattle.std.specs.Prelude.{◌≡◌, ◌⊎◌, ℕ, true, Option, List, ◌++◌}
-use Rattle.std.specs.List.{AllByRecursion, list_any}
+use Rattle.std.specs.Prelude.{◌≡◌, ℕ, true, Option, List}
+use Rattle.std.specs.List.{list_any}
 use Rattle.ogg_page.specs.Page.{Page}
 use Rattle.ogg_command.specs.declared.command.Command.{Command}
 use Rattle.feed_records.specs.declared.item.Record.{Record}
 use Rattle.feed_replies.specs.declared.reply.Reply.{Reply}
-use Rattle.import_changes.specs.Changed.{ChangeState, HasChangedBeside, IsPlain, begins}
+use Rattle.import_changes.specs.Changed.{Become, ChangeState, begins}
 use Rattle.import_changes.specs.declared.options.ChangeOptions.{ChangeOptions}
 use Rattle.import_mend.specs.Gives.{GivesEnd, Mending, mend_at_end}
 use Rattle.import_mend.specs.Importing.{mending_of}
@@ -28,16 +28,9 @@ pub record IntakeState : Type 0 where
 abbrev pub state_of : ImportRun → IntakeState
 state_of run = record { mending = mending_of run.input; options = run.options; changes = run.changes; begun = begun_of run.begun }
 
--- these commands become those in `given`, whatever became of the commands before them
-abbrev pub Become : ChangeState → ChangeState → List Command → List Command → Type 0
-Become old new commands given =
-    (taken : List ℕ) (before now : List Command) → HasChangedBeside taken old before now → AllByRecursion IsPlain commands
-    → HasChangedBeside taken new (before ++ commands) (now ++ given)
-
--- A link begins with one of these commands, or with one of those that they become.
-abbrev pub BeginsLink : ChangeState → ChangeState → List Command → Type 0
-BeginsLink old new commands =
-    (list_any begins commands ≡ true) ⊎ ((given : List Command) × Become old new commands given × (list_any begins given ≡ true))
+-- a link begins with one of these commands
+abbrev pub BeginsLink : List Command → Type 0
+BeginsLink commands = list_any begins commands ≡ true
 
 module _ {S : Type 0} (answers : S → Record → Reply → List ℕ → S → Type 0) where
   -- A page that begins at this offset was mended if it had to be; the commands that it completes were changed, and run.

@@ -7,7 +7,7 @@ use Rattle.ogg_command.specs.declared.command.Command.{Command}
 use Rattle.feed_records.specs.declared.item.Record.{Record}
 use Rattle.feed_records.specs.declared.item.Record.TheVariants.{Flush}
 use Rattle.feed_replies.specs.declared.reply.Reply.{Reply}
-use Rattle.import_changes.specs.Changed.{HasChangedBeside}
+use Rattle.import_changes.specs.Changed.{Become, HasChangedBeside}
 use Rattle.feed_runner.specs.Answering.{AnswersAll}
 use Rattle.feed_runner.specs.Counting.{commands_in}
 use Rattle.import_mend.specs.Whole.{HasMended}
@@ -15,7 +15,7 @@ use Rattle.import_mend.specs.declared.mend.Mend.{Mend}
 use Rattle.ogg_page.specs.Page.{Page}
 use Rattle.import_record.specs.Resuming.{Resumes, ends_of, holds_open, link_again}
 use Rattle.import_record.specs.Running.{HasRun, records_of}
-use Rattle.import_record.specs.Steps.{Become, IntakeState, Takes}
+use Rattle.import_record.specs.Steps.{IntakeState, Takes}
 use Rattle.import_record.specs.declared.answering.Answered.{Answered}
 use Rattle.import_record.specs.declared.intake.Taken.{Taken}
 

@@ -1,10 +1,11 @@
 //! Commands that the input's pages complete: they are changed as asked, and run.
 ghost use Rattle.std.specs.Prelude.{◌≡◌, ◌≢◌, Err, IfOk, IfErr, List};
 ghost use Rattle.ogg_command.specs.declared.command.Command.{Command as CommandOf};
+ghost use Rattle.import_changes.specs.Changed.{Become};
 ghost use Rattle.import_changes.specs.Steps.{BeginAt};
 ghost use Rattle.import_record.specs.Begun.{begun_after, begun_of};
 ghost use Rattle.import_record.specs.Running.{HasRun};
-ghost use Rattle.import_record.specs.Steps.{Become, BeginsLink, StopsBy};
+ghost use Rattle.import_record.specs.Steps.{BeginsLink, StopsBy};
 
 use crate::answering::{Answered, run_all};
 use crate::begun::{Begun, keep_all_open, keep_all_streams};
@@ -27,6 +28,7 @@ pub struct Taken {
 
 /// Has commands run, changed as asked at this time of day. After `Memory` none of them was; after `Write` a prefix of
 /// them was.
+#[tactic(auto, using(crate::proofs::Kept::begun_among))]
 pub(crate) fn run<T: Runner, P: Write>(
     alloc: Global,
     utc: [u8; 20],
@@ -46,7 +48,7 @@ pub(crate) fn run<T: Runner, P: Write>(
         × StopsBy T.answers fault before after (P.contents pages.old) (P.contents pages.new)) }
     ensures unread { result ≢ Err RecordFault.Read }
     // Memory is taken for what a link begins with, and for nothing else.
-    ensures memory { result ≡ Err RecordFault.Memory → BeginsLink changes.old changes.new commands.items }
+    ensures memory { result ≡ Err RecordFault.Memory → BeginsLink commands.items }
 {
     match keep_all_streams(alloc, &mut begun.streams, commands.as_slice()) {
         Ok(()) => {}

@@ -1,12 +1,12 @@
 //! What always holds of recordings.
 ghost use Rattle.std.specs.Prelude.{◌≡◌, ◌+◌, ◌-◌, ◌<◌, ◌^◌, ◌++◌, ◌∷◌, [], ℕ, None, List, length};
 ghost use Rattle.link_chain.specs.declared.stream_state.StreamState.{StreamState as StreamStateOf};
-ghost use Rattle.import_changes.specs.Changed.{HasChangedBeside};
+ghost use Rattle.import_changes.specs.Changed.{Become, HasChangedBeside};
 ghost use Rattle.import_mend.specs.Found.{AreGoodPages, HoldsNone};
 ghost use Rattle.import_mend.specs.Whole.{IsStart, TakesPages};
 ghost use Rattle.import_record.specs.Pushing.{Call, Feeds, Imports, InputState, bytes_in, events_in};
 ghost use Rattle.import_record.specs.Begun.{streams_after};
-ghost use Rattle.import_record.specs.Steps.{Become, IntakeState};
+ghost use Rattle.import_record.specs.Steps.{IntakeState};
 ghost use Rattle.import_record.specs.Whole.{Done, Event, GoOn, IsRecorded, IsResumed, Records, pages_in};
 ghost use Rattle.chain_rules.specs.Commands.{bytes_of_commands};
 ghost use Rattle.file_recorder.specs.Steps.{HasSteps, HasWaiting};

@@ -1,10 +1,10 @@
 //! A recording that goes on after its file was opened again.
-ghost use Rattle.std.specs.Prelude.{◌≡◌, ◌++◌, [], map, nat_eq, IfOk, OnOk, OnErr};
+ghost use Rattle.std.specs.Prelude.{◌≡◌, ◌<◌, ◌+◌, ◌++◌, [], length, map, nat_eq, vec_capacity, vec_len, IfOk, OnOk, OnErr};
 ghost use Rattle.std.specs.List.{filter, list_any};
 ghost use Rattle.import_changes.specs.Changed.{HasChangedBeside};
 ghost use Rattle.import_changes.specs.Steps.{BeginAt};
 ghost use Rattle.import_record.specs.Begun.{open_after};
-ghost use Rattle.import_record.specs.Resuming.{Resumes, end_again, ends_of, has_open, holds_open, is_left, is_over, link_again};
+ghost use Rattle.import_record.specs.Resuming.{IsAsBefore, Resumes, end_again, ends_of, has_open, holds_open, is_left, is_over, link_again};
 ghost use Rattle.import_record.specs.Steps.{state_of};
 ghost use Rattle.ogg_command.specs.declared.command.Command.{Command as CommandOf};
 
@@ -29,7 +29,8 @@ impl ImportRun {
     /// disk may have lost what waited. `streams` are those of its last link, and `serials` all that it has. If it has
     /// each stream open that the input has, only the others are ended. Otherwise all that is open is ended, and if the
     /// input's link is open it begins again: with the streams that are open, and with those that have ended and had no
-    /// packet but their headers, as a Skeleton, under serials that are free. After `Memory` all is as before.
+    /// packet but their headers, as a Skeleton, under serials that are free. After `Memory`, which comes only if a command
+    /// is to be run, all is as before.
     pub fn resume(
         &mut self,
         streams: &[StreamState],
@@ -38,6 +39,8 @@ impl ImportRun {
         ensures resumes { IfOk result (λ commands. Resumes streams.now serials.now (state_of self.old) (state_of self.new) commands.items) }
         ensures same { self.new.input ≡ self.old.input }
         ensures err { OnErr result (state_of self.new ≡ state_of self.old) }
+        // Memory is taken for commands alone: it isn't wanted if nothing is to be run.
+        ensures full { OnErr result (IsAsBefore streams.now (state_of self.old).begun.serials → ⊥) }
     {
         let mut commands = Vec::new(self.alloc);
         if holds_open(streams, self.begun.serials.as_slice()) {
@@ -158,7 +161,8 @@ fn push_ends(
     ours: &[u32],
     streams: &[StreamState],
 ) -> Result<(), Memory>
-    ensures { OnOk result (commands.new.items ≡ commands.old.items ++ ends_of ours.now streams.now) }
+    ensures ends { OnOk result (commands.new.items ≡ commands.old.items ++ ends_of ours.now streams.now) }
+    ensures full { OnErr result (vec_capacity commands.old < vec_len commands.old + length (ends_of ours.now streams.now)) }
 {
     for stream in streams {
         if is_left(ours, stream) {

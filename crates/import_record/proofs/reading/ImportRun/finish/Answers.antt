@@ -13,4 +13,4 @@ pub returns-in-Err-run-clause-memory : goal.returns-in-Err-run-clause-memory
 returns-in-Err-run-clause-memory g c = λ is.
     let (more, appended, gives) = c.in-Ok.ensures.gives in
     let all : c.finish.new.commands.items ≡ more = appended ∙ ap (λ (l : List Command). l ++ more) c.new-commands.ensures.items in
-    inr (more, gives, subst (BeginsLink c.args.self.now.changes c.run.new.changes) all (c.in-Err-run.ensures.memory (ap Err (err_is c.in-Err-run.fault is))))
+    inr (more, gives, subst BeginsLink all (c.in-Err-run.ensures.memory (ap Err (err_is c.in-Err-run.fault is))))

@@ -6,7 +6,8 @@ use Rattle.import_mend.specs.Found.{offset_found}
 use Rattle.import_mend.specs.Importing.{mending_of}
 use Rattle.import_mend.specs.Whole.{TakesPage}
 use Rattle.import_record.specs.Begun.{begun_after, begun_of}
-use Rattle.import_record.specs.Steps.{Become, BeginsLink}
+use Rattle.import_changes.specs.Changed.{Become}
+use Rattle.import_record.specs.Steps.{BeginsLink}
 use Rattle.import_record.specs.declared.fault.RecordFault.{RecordFault}
 use Rattle.import_record.specs.declared.fault.RecordFault.TheVariants.{Memory}
 use Rattle.import_record.specs.declared.reading.Step.{Step}
@@ -55,5 +56,5 @@ returns-in-Err-run-clause-memory g c = λ is.
       c.in-Ok.found.mend,
       more,
       takes,
-      subst (BeginsLink c.args.self.now.changes c.run.new.changes) all (c.in-Err-run.ensures.memory (ap Err (err_is c.in-Err-run.fault is))),
+      subst BeginsLink all (c.in-Err-run.ensures.memory (ap Err (err_is c.in-Err-run.fault is))),
     )
