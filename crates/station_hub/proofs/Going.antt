@@ -22,39 +22,13 @@ module _ {D : Type 0} (model : DiskModel D) where
   recorded before after (CommandOf command) reply own is = (Recorded command is.1.answer, is.1.step, refl)
   recorded before after FlushOf reply own is = (Flush is.1.answer, is.1.step, refl)
 
-  pub by_command : (old new : LiveHub D) (given : Record) (result : Result Reply WriteFault) (Written Part : List ℕ → Type 0)
-      → ((before : LiveProgress D) → IsLiveIn model before old → IfOk result (λ reply. (own : List ℕ) × (after : LiveProgress D)
-      × LiveAnswers model before given reply own after × IsLiveIn model after new × Written own))
-      → ((before : LiveProgress D) → IsLiveIn model before old → OnErr result ((reply : Reply) × (own : List ℕ) × (after : LiveProgress D)
-      × LiveAnswers model before given reply own after × IsLiveIn model before new × Part own))
+  pub by_answer : (old new : LiveHub D) (given : Record) (reply : Reply)
+      → ((before : LiveProgress D) → IsLiveIn model before old → (after : LiveProgress D) × LiveAnswers model before given reply [] after × IsLiveIn model after new)
       → RecordsLive model old new
-  by_command old new given (Ok reply) Written Part ok err before shown =
+  by_answer old new given reply answered before shown =
       let from : Progress D = record { now = old.hub; machine = before } in
-      let (own, after, answers, is_in, written) = ok (live_in from old) (is_live_in model from old (refl, shown)) in
-      let (event, step, none) = recorded from after.hub given reply own answers.hub in (
-        record { event = event; after = after.hub.machine } ∷ [],
-        (step, tt),
-        (none, tt),
-        is_in.hub.1,
-        subst (λ (places : PlacesState). TracksOn before old.places after.hub.machine places) is_in.places answers.tracks,
-      )
-  by_command old new given (Err fault) Written Part ok err before shown =
-      let from : Progress D = record { now = old.hub; machine = before } in
-      let (reply, own, after, answers, is_in, part) = err (live_in from old) (is_live_in model from old (refl, shown)) in (
-        [],
-        tt,
-        tt,
-        is_in.hub.1,
-        subst (λ (places : PlacesState). TracksOn before old.places before places) is_in.places (λ start tracks. tracks),
-      )
-
-  pub by_flush : (old new : LiveHub D) (reply : Reply)
-      → ((before : LiveProgress D) → IsLiveIn model before old → (after : LiveProgress D) × LiveAnswers model before FlushOf reply [] after × IsLiveIn model after new)
-      → RecordsLive model old new
-  by_flush old new reply flushes before shown =
-      let from : Progress D = record { now = old.hub; machine = before } in
-      let (after, answers, is_in) = flushes (live_in from old) (is_live_in model from old (refl, shown)) in
-      let (event, step, none) = recorded from after.hub FlushOf reply [] answers.hub in (
+      let (after, answers, is_in) = answered (live_in from old) (is_live_in model from old (refl, shown)) in
+      let (event, step, none) = recorded from after.hub given reply [] answers.hub in (
         record { event = event; after = after.hub.machine } ∷ [],
         (step, tt),
         (none, tt),

@@ -1,3 +1,4 @@
+mod Ended
 mod Going
 mod Keeping
 mod Lasting

@@ -6,19 +6,24 @@ ghost use Rattle.feed_records.specs.declared.item.Record.{Record as RecordOf};
 ghost use Rattle.chain_rules.specs.Decision.{is_begin};
 ghost use Rattle.feed_replies.specs.declared.reply.Reply.{Reply as ReplyOf};
 ghost use Rattle.feed_replies.specs.declared.reply.Reply.TheVariants.{Held as HeldOf};
+ghost use Rattle.feed_runner.specs.Refusing.{refuses};
+ghost use Rattle.file_recorder.specs.Ending.{AllEnded, EndRefused};
 ghost use Rattle.file_recorder.specs.Recorder.{committed};
 ghost use Rattle.gate_file.specs.Commit.{CommitsTo};
 ghost use Rattle.gate_file.specs.Gate.{EachImage};
 ghost use Rattle.serve_hub.specs.Exchanging.{only_read};
 ghost use Rattle.serve_hub.specs.Parts.{OnlySessions, hub_parts, is_at_rest, is_settled};
+ghost use Rattle.ogg_command.specs.declared.command.Command.{Command as CommandOf};
+ghost use Rattle.serve_hub.specs.Running.{RepliesIn};
 ghost use Rattle.serve_hub.specs.Showing.{Shows};
 ghost use Rattle.serve_live.specs.Boundaries.{no_link, place_to_join};
 ghost use Rattle.serve_machine.specs.Calls.{Steps, found_by};
 ghost use Rattle.serve_machine.specs.Hub.{Close, HubState, Reopen};
 ghost use Rattle.serve_machine.specs.declared.fault.HubFault.{HubFault as HubFaultOf};
 ghost use Rattle.station_hub.specs.Keeping.{KeepsRecorded};
-ghost use Rattle.station_hub.specs.Ending.{first_of, first_open, refusal_in, reply_in};
+ghost use Rattle.station_hub.specs.Ending.{EndsOpen, HubReplies, streams_of};
 ghost use Rattle.station_hub.specs.Live.{BeginsOver, RecordsLive};
+ghost use Rattle.station_hub.specs.LiveRunning.{IsLiveIn, LiveAnswers, LiveProgress};
 ghost use Rattle.station_hub.specs.Places.{answered_by, committed_to, reopened_to};
 ghost use Rattle.station_hub.specs.Tracking.{IsOpenIn, IsTold, KeepsPlaces};
 ghost use Rattle.station_hub.specs.declared.places.Answered.{Answered as AnsweredOf};
@@ -28,19 +33,16 @@ use crate::places::{Answered, Places};
 use disk_model::Disk;
 use feed_replies::Reply;
 use feed_runner::Runner;
-use file_recorder::Recorder;
+use file_recorder::{Recorder, first_open};
 use gate_file::OpenFault;
-use link_chain::{StreamState, is_open};
+use link_chain::is_open;
 use ogg_command::{Command, Refusal, command_is_in_range};
 use ogg_page::WriteFault;
 use serve_hub::Hub;
 use serve_live::JoinPlace;
 use serve_machine::calls_move_their_session;
 use std::alloc::{AllocError as Memory, Global};
-use std::io::{self, Write};
-
-/// A link has at most this many streams.
-const MOST_STREAMS: usize = 64;
+use std::io::Write;
 
 /// A hub, and where listeners may join the link that it records.
 #[derive(Drop)]
@@ -130,45 +132,60 @@ impl<D: Disk + Drop> LiveHub<D> {
     }
 
     /// Ends each stream that the file's last link has open, and commits that. It stops at the first end that is refused.
-    /// Unless nothing is left to be done then, it returns what was refused first; `LinkOpen` says that nothing was, and a
-    /// stream is open still.
+    /// Unless all of it is done then, it returns what was refused first.
     pub fn end_open(&mut self) -> Result<(), Refusal>
         ensures rests { OnOk result (is_at_rest self.new.hub.file ≡ true) }
         ensures left { OnErr result (is_at_rest self.new.hub.file ≡ false) }
+        ensures ends { EndsOpen result self.old.hub self.new.hub }
         ensures records { RecordsLive D.Disk self.old self.new }
     {
         let ended = self.end_all();
-        let kept = refusal_in(self.run_flush());
-        if self.hub.is_at_rest() {
-            Ok(())
-        } else {
-            Err(first_of(ended, kept))
+        let flushed = self.run_flush();
+        match ended {
+            Ok(()) => refusal_in(flushed),
+            Err(refusal) => Err(refusal),
         }
     }
 
     /// Ends the open streams in turn, up to the first end that is refused. It returns what that was refused as.
-    fn end_all(&mut self) -> Option<Refusal>
+    fn end_all(&mut self) -> Result<(), Refusal>
+        ensures ended { OnOk result ((replies : List ReplyOf) × AllEnded streams_of HubReplies self.old.hub self.new.hub replies) }
+        ensures refused { IfErr result (λ refusal. (replies : List ReplyOf)
+            × EndRefused streams_of HubReplies self.old.hub self.new.hub replies refusal) }
         ensures records { RecordsLive D.Disk self.old self.new }
     {
-        for _ in 0..MOST_STREAMS {
-            match self.end_first() {
-                Some(Reply::Refused(refusal)) => return Some(refusal),
-                Some(_) => {}
-                None => return None,
+        while let Some(serial) = first_open(self.hub.streams()) {
+            if let Reply::Refused(refusal) = self.end_stream(serial) {
+                return Err(refusal);
             }
         }
-        None
+        Ok(())
     }
 
-    /// Ends the first open stream, if there is one, and returns the answer.
-    fn end_first(&mut self) -> Option<Reply>
+    /// Ends a stream, and returns the reply.
+    fn end_stream(&mut self, serial: u32) -> Reply
+        ensures replied { RepliesIn self.old.hub.file (RecordOf.Command (CommandOf.End serial)) result self.new.hub.file }
         ensures records { RecordsLive D.Disk self.old self.new }
     {
-        let Some(serial) = first_open(self.hub.streams()) else {
-            return None;
-        };
-        let answer = self.run_command(&Command::End(serial), &mut io::sink());
-        reply_in(answer)
+        let end = Command::End(serial);
+        self.answer(&end)
+    }
+
+    /// Runs a command, and returns the reply that says what became of it.
+    fn answer(&mut self, command: &Command) -> Reply
+        ensures answers { (before : LiveProgress D) → IsLiveIn D.Disk before self.old → (after : LiveProgress D)
+            × LiveAnswers D.Disk before (RecordOf.Command command.now) result [] after
+            × IsLiveIn D.Disk after self.new }
+        ensures replied { RepliesIn self.old.hub.file (RecordOf.Command command.now) result self.new.hub.file }
+        ensures keeps { KeepsPlaces (Shows D.Disk) self.old.hub self.old.places self.new.hub self.new.places }
+    {
+        listeners_join_committed_links();
+        // For the proof alone.
+        command_is_in_range(command);
+        let length = self.hub.length();
+        let reply = self.hub.answer(command);
+        self.answered(command, length, reply);
+        reply
     }
 
     /// A command got this reply. Before it, the file and what waited had `before` bytes. A boundary at which listeners join
@@ -221,46 +238,16 @@ fn is_begin(command: &Command) -> bool
     matches!(command, Command::Begin(_))
 }
 
-/// The reply, if the command was answered.
-fn reply_in(answer: Result<Reply, WriteFault>) -> Option<Reply>
-    ensures { result ≡ reply_in answer }
-{
-    match answer {
-        Ok(reply) => Some(reply),
-        Err(_) => None,
-    }
-}
-
-/// What this reply refuses a command as, if it does.
-fn refusal_in(reply: Reply) -> Option<Refusal>
-    ensures { result ≡ refusal_in reply }
+/// What this reply refuses, if it does.
+fn refusal_in(reply: Reply) -> Result<(), Refusal>
+    ensures ok { OnOk result (refuses reply ≡ false) }
+    ensures err { IfErr result (λ refusal. reply ≡ ReplyOf.Refused refusal) }
 {
     match reply {
-        Reply::Refused(refusal) => Some(refusal),
-        Reply::Held(_) => None,
-        Reply::Kept(_) => None,
+        Reply::Refused(refusal) => Err(refusal),
+        Reply::Held(_) => Ok(()),
+        Reply::Kept(_) => Ok(()),
     }
-}
-
-/// The first of two refusals. If there was none, a stream is open still.
-fn first_of(one: Option<Refusal>, other: Option<Refusal>) -> Refusal
-    ensures { result ≡ first_of one other }
-{
-    match one {
-        Some(refusal) => refusal,
-        None => match other {
-            Some(refusal) => refusal,
-            None => Refusal::LinkOpen,
-        },
-    }
-}
-
-/// The serial of the first stream that hasn't ended.
-fn first_open(streams: &[StreamState]) -> Option<u32>
-    ensures { result ≡ first_open streams.now }
-{
-    let stream = streams.iter().find(|stream| !stream.ended)?;
-    Some(stream.serial)
 }
 
 /// It answers as its hub does, and where its listeners join stay places of its file.
@@ -294,23 +281,14 @@ impl<D: Disk + Drop> Runner for LiveHub<D> {
             × IsLiveIn D.Disk before self.new × WritesPart (P.contents pages.old) (P.contents pages.new) own) }
         ensures keeps { KeepsPlaces (Shows D.Disk) self.old.hub self.old.places self.new.hub self.new.places }
     {
-        listeners_join_committed_links();
-        // For the proof alone.
-        command_is_in_range(command);
-        let length = self.hub.length();
-        match self.hub.run_command(command, pages) {
-            Ok(reply) => {
-                self.answered(command, length, reply);
-                Ok(reply)
-            }
-            Err(fault) => Err(fault),
-        }
+        Ok(self.answer(command))
     }
 
     fn run_flush(&mut self) -> Reply
         ensures answers { (before : LiveProgress D) → IsLiveIn D.Disk before self.old → (after : LiveProgress D)
             × LiveAnswers D.Disk before RecordOf.Flush result [] after
             × IsLiveIn D.Disk after self.new }
+        ensures replied { RepliesIn self.old.hub.file RecordOf.Flush result self.new.hub.file }
         ensures keeps { KeepsPlaces (Shows D.Disk) self.old.hub self.old.places self.new.hub self.new.places }
     {
         listeners_join_committed_links();

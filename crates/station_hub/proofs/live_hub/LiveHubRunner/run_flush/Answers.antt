@@ -1,11 +1,12 @@
 use Rattle.std.proofs.Common.{◌≡◌, Result, Ok, Err, refl, sym, ◌∙◌, subst}
+use Rattle.feed_records.specs.declared.item.Record.TheVariants.{Flush as FlushOf}
 use Rattle.feed_replies.specs.declared.reply.Kept.{Kept}
 use Rattle.feed_replies.specs.declared.reply.Reply.{Reply}
 use Rattle.feed_replies.specs.declared.reply.Reply.TheVariants.{Kept as KeptReply}
 use Rattle.ogg_command.specs.declared.refusal.Refusal.{Refusal}
 use Rattle.file_recorder.specs.Running.{reply_of_flush}
 use Rattle.serve_hub.specs.Parts.{HubParts}
-use Rattle.serve_hub.specs.Running.{IsIn}
+use Rattle.serve_hub.specs.Running.{IsIn, RepliesIn}
 use Rattle.serve_machine.specs.Hub.{flush_step}
 use Rattle.station_hub.specs.LiveLaws.{is_live_in}
 use Rattle.station_hub.specs.LiveRunning.{live_in}
@@ -73,3 +74,7 @@ returns-in_default-clause-keeps g c start before shows tracks =
     let from = live_in (record { now = old.hub; machine = before }) old in
     let (after, answers, reached) = returns-in_default-clause-answers g c from (is_live_in g.D.Disk from.hub old (refl, shows)) in
     (after.hub.machine, reached.hub.1, subst (λ (one : PlacesState). Tracks start after.hub.machine one) reached.places (answers.tracks start tracks))
+
+pub returns-in-Kept-clause-replied : goal.returns-in-Kept-clause-replied
+returns-in-Kept-clause-replied g c =
+    subst (λ (hub : HubParts _). RepliesIn c.args.self.now.hub.file FlushOf c.run_flush-reply.result hub.file) (sym c.committed.ensures.hub) c.run_flush-reply.ensures.replied
