@@ -1,7 +1,7 @@
 #!/usr/bin/env bash
-# A file is locked, and a recorder is opened on its disk, at few places. Whoever records into a file goes through them,
-# so the lock comes before the opening, and bytes of another kind are refused before a recorder is on them. A place
-# more is printed.
+# A named file is recorded into by way of record_actions alone: lock_file makes a LockedFile, which no other code can
+# make, and open_recorder alone gets a recorder from one. What types don't say is that no other code calls
+# FileDisk::lock or Recorder::open itself: the places that do are few, and a place more is printed.
 . "$(dirname "$0")/../helpers/counting.bash"
 
 # places FOLDER CALL: the files below this folder of crates whose code has this call, but those of tests and of
@@ -20,7 +20,7 @@ check "a call is found, and no comment" is_text "$work/found" 'low/src/locking.r
 
 # A file is locked by lock_file, and by what keeps a copy of a tail beside it.
 places "$top/crates" FileDisk::lock >"$work/found"
-check "where files are locked" is_text "$work/found" 'record_actions/src/beside.rt\nrecord_actions/src/recorders.rt\n'
+check "where files are locked" is_text "$work/found" 'record_actions/src/beside.rt\nrecord_actions/src/locking.rt\n'
 
 # The other files are opened to be read alone.
 places "$top/crates" FileDisk::open >"$work/found"
@@ -30,9 +30,8 @@ grep -rhF --include='*.rt' -e 'FileDisk::open(' "$top"/crates/{archive_reading,f
     grep -vF 'FileMode::ReadOnly' >"$work/found"
 check "they are opened to be read alone" is_text "$work/found" ''
 
-# A recorder is opened on the disk of a file that was locked and isn't of another kind (record_actions), on that of a
-# folder's file that can be gone on with (open_sound of archive_record), again after a fault (serve_hub), and by the
-# laws.
+# A recorder is opened on the disk of a file that was locked, by open_recorder (record_actions), on that of a folder's
+# file that can be gone on with (open_sound of archive_record), again after a fault (serve_hub), and by the laws.
 wanted='archive_laws/src/stepping.rt\narchive_record/src/opening.rt\nrecord_actions/src/recorders.rt\n'
 places "$top/crates" Recorder::open >"$work/found"
 check "where recorders are opened" is_text "$work/found" "${wanted}serve_hub/src/opening.rt\n"

@@ -1,5 +1,5 @@
 //! A stream that is recorded as it comes.
-ghost use Rattle.std.specs.Prelude.{◌≡◌, ◌⊎◌, ◌↔◌, IfOk, OnOk, Err, true, false};
+ghost use Rattle.std.specs.Prelude.{◌≡◌, ◌≢◌, ◌⊎◌, ◌↔◌, IfOk, OnOk, Err, true, false};
 ghost use Rattle.gate_file.specs.declared.fault.OpenFault.{OpenFault as OpenFaultOf};
 ghost use Rattle.link_chain.specs.ChainState.{is_open};
 ghost use Rattle.ogg_command.specs.declared.refusal.Refusal.{Refusal as RefusalOf};
@@ -11,12 +11,14 @@ use crate::filing::{Filing, archive_folder, is_folder, now};
 use crate::recording::{FileRecording, Recording};
 use archive_clock::utc_of;
 use archive_record::Unended;
-use disk_model::{Disk, FileDisk, FileMode};
+use disk_model::{Disk, FileDisk};
 use fault_lines::{Fault, is_input};
 use file_recorder::Recorder;
 use import_feed::{ChangeOptions, Skeletons};
 use import_record::{ImportRun, RecordFault};
-use record_actions::{Aside, Asides, TailFiles, keeping_recorder_on, lock_file};
+use record_actions::{
+    Aside, Asides, LockedFile, Missing, Opening, TailFiles, lock_file, open_recorder,
+};
 use std::alloc::Global;
 
 /// How many bytes of the stream are read at once.
@@ -72,30 +74,31 @@ pub(crate) fn open_ended(
     file: &str,
     most: u32,
 ) -> Result<Recorder<FileDisk>, Fault> {
-    let disk = lock_file(rt, file, FileMode::Create)?;
-    match ended_on(rt.alloc(), disk, &mut TailFiles::of(rt, file), most) {
+    let locked = lock_file(rt, file, Missing::Made)?;
+    match ended_on(rt.alloc(), locked, &mut TailFiles::of(rt, file), most) {
         Ok((recorder, _)) => Ok(recorder),
         Err(fault) => Err(fault),
     }
 }
 
-/// A recorder on a disk that holds a recording, or nothing yet, and what keeps the tail that the disk had, unless a stop
+/// A recorder on a file that holds a recording, or nothing yet, and what keeps the tail that the file had, unless a stop
 /// may have left that. What was open is ended, and that is kept.
 ///
-/// Its faults are those of `keeping_recorder_on` and of `end_open`.
+/// Its faults are those of `open_recorder` and of `end_open`.
 fn ended_on<D: Disk + Drop, A: Asides>(
     alloc: Global,
-    disk: D,
+    file: LockedFile<D>,
     asides: &mut A,
     most: u32,
 ) -> Result<(Recorder<D>, Option<Aside<A::Copy>>), Fault>
     ensures rests { IfOk result (λ (recorder, aside). IsAtRest recorder) }
-    ensures foreign { D.is_honest disk → IsForeign (front_of (D.state disk).contents)
+    ensures foreign { D.is_honest file → IsForeign (front_of (D.state file).contents)
         → (result ≡ Err Fault.Foreign) ⊎ (result ≡ Err (Fault.Open OpenFaultOf.Disk)) }
-    ensures kept { IfOk result (λ (recorder, aside). D.is_honest disk
-        → IsKeptAside A.Copy.Disk (D.state disk).contents aside) }
+    ensures only { D.is_honest file → result ≡ Err Fault.Foreign → IsForeign (front_of (D.state file).contents) }
+    ensures kept { IfOk result (λ (recorder, aside). D.is_honest file
+        → IsKeptAside A.Copy.Disk (D.state file).contents aside) }
 {
-    let (mut recorder, aside) = keeping_recorder_on(alloc, disk, asides)?;
+    let (mut recorder, aside) = open_recorder(alloc, file, Opening::Kept, asides)?;
     // `clap` has checked that `most` lies in this range, and nothing waits yet.
     recorder.group(most.clamp(1, 1024));
     end_open(&mut recorder)?;
@@ -109,6 +112,7 @@ pub(crate) fn end_open<D: Disk>(recorder: &mut Recorder<D>) -> Result<(), Fault>
     ensures rests { OnOk result (IsAtRest recorder.new) }
     ensures failed { result ≡ Err Fault.Failed → recorder.new.file.failed ≡ true }
     ensures refused { result ≡ Err Fault.Refused → is_open recorder.new.chain ≡ true }
+    ensures own { result ≢ Err Fault.Foreign }
 {
     match archive_record::end_open(recorder) {
         Ok(()) => Ok(()),
@@ -120,6 +124,7 @@ pub(crate) fn end_open<D: Disk>(recorder: &mut Recorder<D>) -> Result<(), Fault>
 pub(crate) fn unended_fault(unended: Unended) -> Fault
     ensures failed { (result ≡ Fault.Failed) ↔ (unended ≡ Unended.Failed) }
     ensures refused { (result ≡ Fault.Refused) ↔ ((refusal : RefusalOf) × (unended ≡ Unended.Refused refusal)) }
+    ensures own { result ≢ Fault.Foreign }
 {
     match unended {
         Unended::Failed => Fault::Failed,

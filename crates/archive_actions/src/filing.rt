@@ -7,10 +7,10 @@ use crate::recording::FolderRecording;
 use archive_folder::{Folder, SystemFolder};
 use archive_names::{Keeping, Limits};
 use archive_record::{ArchiveNames, Rules};
-use disk_model::{Disk, FileDisk, FileMode};
+use disk_model::{Disk, FileDisk};
 use fault_lines::Fault;
 use import_record::RecordFault;
-use record_actions::{Told, lock_file};
+use record_actions::{LockedFile, Missing, Told, lock_file};
 use std::alloc::{AllocError, Global};
 use std::fs::{self, Metadata, ReadDir};
 use std::os::unix::fs::{DirEntryExt, MetadataExt};
@@ -108,13 +108,13 @@ pub(crate) fn archive_folder(
 }
 
 /// Locks the folder, whose path has a slash at its end. It is made if there is none.
-pub fn lock_folder(rt: &HostRuntime, folder: &str) -> Result<FileDisk, Fault> {
+pub fn lock_folder(rt: &HostRuntime, folder: &str) -> Result<LockedFile<FileDisk>, Fault> {
     if fs::metadata(rt, folder).is_err() {
         // If it can't be made, its lock can't either.
         let _ = fs::create_dir(rt, folder);
     }
     let lock = joined(rt.alloc(), folder, "lock")?;
-    lock_file(rt, lock.as_str(), FileMode::Create)
+    lock_file(rt, lock.as_str(), Missing::Made)
 }
 
 /// Records the stream into the files of this folder.

@@ -1,4 +1,5 @@
 pub mod Foreign
+pub mod Opening
 pub mod Tail
 pub mod TailLine
 pub mod Searching

@@ -1,6 +1,7 @@
 //! A tail that no stop has left is kept aside before anything is written over it.
-ghost use Rattle.std.specs.Prelude.{◌≡◌, ◌≢◌, ◌+◌, ◌^◌, ◌<◌, IfOk, IfErr};
+ghost use Rattle.std.specs.Prelude.{◌≡◌, ◌≢◌, ◌⊎◌, ◌+◌, ◌^◌, ◌<◌, IfOk, IfErr};
 ghost use Rattle.gate_file.specs.declared.fault.OpenFault.{OpenFault as OpenFaultOf};
+ghost use Rattle.record_actions.specs.Opening.{IsCopyFault, IsOpenFault};
 ghost use Rattle.record_actions.specs.Tail.{HoldsTail, IsKeptAside, IsTailOf, OnlyRead};
 
 use crate::copying::fill;
@@ -19,7 +20,10 @@ pub trait Asides {
 
     /// Opens the copy with this number, from 1 on, of what begins at this offset. An empty one is made if there is none,
     /// so that no stop takes its name away.
-    fn open(&mut self, offset: u64, number: u32) -> Result<Self::Copy, Fault>;
+    ///
+    /// It is `Memory` if memory is refused, and `File` if the system refuses anything else.
+    fn open(&mut self, offset: u64, number: u32) -> Result<Self::Copy, Fault>
+        ensures why { IfErr result IsCopyFault };
 
     /// The copy with this number holds the tail, and is synced. Nothing was written over the tail so far.
     fn tell(&mut self, tail: Tail, number: u32);
@@ -49,6 +53,7 @@ pub(crate) fn keep_tail<D: Disk + Drop, A: Asides>(
     ensures kept { IfOk result (λ (same, aside). D.is_honest disk → IsKeptAside A.Copy.Disk (D.state disk).contents aside) }
     ensures left { IfErr result (λ (fault, back). fault ≢ Fault.Open OpenFaultOf.Disk → D.is_honest disk
         → (D.state back).contents ≡ (D.state disk).contents) }
+    ensures why { IfErr result (λ (fault, back). IsCopyFault fault ⊎ IsOpenFault fault) }
 {
     match find_tail(alloc, disk) {
         Ok((disk, tail)) => match tail {
@@ -75,6 +80,7 @@ fn keep_this<D: Disk + Drop, A: Asides>(
     ensures kept { IfOk result (λ (same, aside). D.is_honest disk → A.Copy.is_honest aside.copy
         → HoldsTail A.Copy.Disk (D.state disk).contents tail aside.copy) }
     ensures left { IfErr result (λ (fault, back). OnlyRead D.Disk disk back) }
+    ensures why { IfErr result (λ (fault, back). IsCopyFault fault) }
 {
     let mut disk = disk;
     match copy_aside(&mut disk, tail, asides) {
@@ -94,6 +100,7 @@ fn copy_aside<D: Disk, A: Asides>(
     ensures holds { IfOk result (λ copy. D.is_honest disk.old → A.Copy.is_honest copy
         → HoldsTail A.Copy.Disk (D.state disk.old).contents tail copy) }
     ensures read { OnlyRead D.Disk disk.old disk.new }
+    ensures why { IfErr result IsCopyFault }
 {
     for number in 1..=MOST {
         let mut copy = asides.open(tail.offset, number)?;

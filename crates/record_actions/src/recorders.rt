@@ -1,14 +1,16 @@
-//! Files that commands are recorded into: they are opened, and sealed.
-ghost use Rattle.std.specs.Prelude.{◌≡◌, ◌↔◌, ◌⊎◌, ◌<◌, IfOk, IfErr, IsTrue, OnErr, Ok, Err, None, Some, true, false, codes, drop};
+//! Recorders on files: they are opened, and sealed.
+ghost use Rattle.std.specs.Prelude.{◌≡◌, ◌≢◌, ◌↔◌, ◌⊎◌, ◌<◌, IfOk, IfErr, IsTrue, OnErr, Ok, Err, None, Some, true, false, codes, drop};
 ghost use Rattle.disk_model.specs.Fault.{HasCause};
 ghost use Rattle.disk_model.specs.Image.{IsSettled};
 ghost use Rattle.file_recorder.specs.Recorder.{committed};
 ghost use Rattle.gate_file.specs.declared.fault.OpenFault.{OpenFault as OpenFaultOf};
 ghost use Rattle.record_actions.specs.Foreign.{IsForeign, front_of};
+ghost use Rattle.record_actions.specs.Opening.{MayMeet};
 ghost use Rattle.record_actions.specs.Tail.{IsKeptAside};
 
 use crate::asides::{Aside, Asides, keep_tail};
-use disk_model::{Disk, DiskFault, FileDisk, FileFault, FileMode};
+use crate::locking::LockedFile;
+use disk_model::{Disk, DiskFault, FileDisk};
 use fault_lines::Fault;
 use file_recorder::Recorder;
 use gate_file::OpenFault;
@@ -17,46 +19,89 @@ use std::alloc::Global;
 /// How many of a file's first bytes are looked at.
 const FRONT: usize = 8;
 
-/// Opens a file to record into it, and locks it for as long as it is open. Nothing waits in it.
-///
-/// Its faults are those of `lock_file`, and then those of `recorder_on`.
-pub fn open_recorder(
-    rt: &HostRuntime,
-    file: &str,
-    mode: FileMode,
-) -> Result<Recorder<FileDisk>, Fault>
-    ensures { IfOk result (λ recorder. recorder.held ≡ 0) }
-{
-    let disk = lock_file(rt, file, mode)?;
-    recorder_on(rt.alloc(), disk)
+/// How a file is opened to be recorded into.
+#[derive(Clone, Copy, Debug, PartialEq, Eq)]
+pub enum Opening {
+    /// Whatever it holds.
+    AsItIs,
+    /// It holds a recording, or nothing yet.
+    Own,
+    /// The same, and no byte is written over after the pages that no stop has left there: they are kept aside first.
+    Kept,
 }
 
-/// The same for a file that an earlier run may have left, which is made if there is none. It is `Foreign` besides, as
-/// `own_recorder_on` is.
-pub fn open_own_recorder(rt: &HostRuntime, file: &str) -> Result<Recorder<FileDisk>, Fault>
-    ensures { IfOk result (λ recorder. recorder.held ≡ 0) }
+/// A recorder on a file that was locked, and what keeps its tail, if the opening asks for that and no stop has left the
+/// tail. Nothing waits in the recorder. Whoever opens a file by its name to record into it calls this.
+///
+/// Unless it is opened as it is, it is `Foreign` first if it holds anything else than a recording, as far as its first
+/// bytes show that. Then its faults are those of `keep_tail`, if that is asked for. Nothing is written before these, nor
+/// after them. At last it is `Open`, with what `Recorder::open` has met. The file is let go after a fault.
+pub fn open_recorder<D: Disk + Drop, A: Asides>(
+    alloc: Global,
+    file: LockedFile<D>,
+    opening: Opening,
+    asides: &mut A,
+) -> Result<(Recorder<D>, Option<Aside<A::Copy>>), Fault>
+    ensures held { IfOk result (λ (recorder, aside). recorder.held ≡ 0) }
+    ensures foreign { opening ≢ Opening.AsItIs → D.is_honest file → IsForeign (front_of (D.state file).contents)
+        → (result ≡ Err Fault.Foreign) ⊎ (result ≡ Err (Fault.Open OpenFaultOf.Disk)) }
+    ensures only { D.is_honest file → result ≡ Err Fault.Foreign → IsForeign (front_of (D.state file).contents) }
+    // The copy holds what followed the pages before anything was written.
+    ensures kept { opening ≡ Opening.Kept → IfOk result (λ (recorder, aside). D.is_honest file
+        → IsKeptAside A.Copy.Disk (D.state file).contents aside) }
+    ensures none { opening ≢ Opening.Kept → IfOk result (λ (recorder, aside). aside ≡ None) }
+    ensures why { IfErr result (λ fault. MayMeet opening fault) }
 {
-    let disk = lock_file(rt, file, FileMode::Create)?;
-    own_recorder_on(rt.alloc(), disk)
+    match looked_at(alloc, file.disk, opening, asides) {
+        Ok((disk, aside)) => match recorder_on(alloc, disk) {
+            Ok(recorder) => Ok((recorder, aside)),
+            Err(fault) => Err(fault),
+        },
+        Err((fault, _)) => Err(fault),
+    }
 }
 
-/// Opens a file, and locks it for as long as it is open.
+/// The same disk, which may be recorded on by this opening, and what keeps its tail. Nothing is written to the disk.
 ///
-/// It is `Locked` if another program has locked it, `Memory` if memory is refused, and `File` if the system refuses
-/// anything else. Its bytes stay as they are.
-pub fn lock_file(rt: &HostRuntime, file: &str, mode: FileMode) -> Result<FileDisk, Fault> {
-    match FileDisk::lock(rt, file, mode) {
-        Ok(disk) => Ok(disk),
-        Err(FileFault::Locked) => Err(Fault::Locked),
-        Err(FileFault::Refused) => Err(Fault::File),
-        Err(FileFault::Memory) => Err(Fault::Memory),
+/// Its faults are those of `own` and then of `keep_tail`, as far as they are asked for. The disk is given back.
+fn looked_at<D: Disk + Drop, A: Asides>(
+    alloc: Global,
+    disk: D,
+    opening: Opening,
+    asides: &mut A,
+) -> Result<(D, Option<Aside<A::Copy>>), (Fault, D)>
+    ensures same { IfOk result (λ (same, aside). D.is_honest disk → D.is_honest same
+        × ((D.state same).contents ≡ (D.state disk).contents)) }
+    ensures left { IfErr result (λ (fault, back). fault ≢ Fault.Open OpenFaultOf.Disk → D.is_honest disk
+        → (D.state back).contents ≡ (D.state disk).contents) }
+    ensures own { opening ≢ Opening.AsItIs → IfOk result (λ (same, aside). D.is_honest disk
+        → IsForeign (front_of (D.state disk).contents) → ⊥) }
+    ensures foreign { opening ≢ Opening.AsItIs → D.is_honest disk → IsForeign (front_of (D.state disk).contents)
+        → IfErr result (λ (fault, back). (fault ≡ Fault.Foreign) ⊎ (fault ≡ Fault.Open OpenFaultOf.Disk)) }
+    ensures only { IfErr result (λ (fault, back). D.is_honest disk → fault ≡ Fault.Foreign
+        → IsForeign (front_of (D.state disk).contents)) }
+    ensures kept { opening ≡ Opening.Kept → IfOk result (λ (same, aside). D.is_honest disk
+        → IsKeptAside A.Copy.Disk (D.state disk).contents aside) }
+    ensures none { opening ≢ Opening.Kept → IfOk result (λ (same, aside). aside ≡ None) }
+    ensures why { IfErr result (λ (fault, back). MayMeet opening fault) }
+{
+    match opening {
+        Opening::AsItIs => Ok((disk, None)),
+        Opening::Own => match own(disk) {
+            Ok(disk) => Ok((disk, None)),
+            Err(left) => Err(left),
+        },
+        Opening::Kept => match own(disk) {
+            Ok(disk) => keep_tail(alloc, disk, asides),
+            Err(left) => Err(left),
+        },
     }
 }
 
 /// A recorder on a disk. Nothing waits in it.
 ///
 /// It is `Open`, with what `Recorder::open` has met, if what the disk has can't be recorded on; the disk is let go.
-pub(crate) fn recorder_on<D: Disk + Drop>(alloc: Global, disk: D) -> Result<Recorder<D>, Fault>
+fn recorder_on<D: Disk + Drop>(alloc: Global, disk: D) -> Result<Recorder<D>, Fault>
     ensures held { IfOk result (λ recorder. recorder.held ≡ 0) }
     ensures open { IfErr result (λ fault. (opening : OpenFaultOf) × (fault ≡ Fault.Open opening)) }
 {
@@ -66,59 +111,19 @@ pub(crate) fn recorder_on<D: Disk + Drop>(alloc: Global, disk: D) -> Result<Reco
     }
 }
 
-/// A recorder on a disk that holds a recording, or nothing yet. Nothing waits in it.
-///
-/// It is `Foreign` if the disk holds anything else, as far as its first bytes show that, and then nothing is written. Else
-/// its faults are those of `recorder_on`.
-pub fn own_recorder_on<D: Disk + Drop>(alloc: Global, disk: D) -> Result<Recorder<D>, Fault>
-    ensures held { IfOk result (λ recorder. recorder.held ≡ 0) }
-    ensures foreign { D.is_honest disk → IsForeign (front_of (D.state disk).contents)
-        → (result ≡ Err Fault.Foreign) ⊎ (result ≡ Err (Fault.Open OpenFaultOf.Disk)) }
-    ensures only { D.is_honest disk → result ≡ Err Fault.Foreign → IsForeign (front_of (D.state disk).contents) }
-{
-    match own(disk) {
-        Ok(disk) => recorder_on(alloc, disk),
-        Err(fault) => Err(fault),
-    }
-}
-
-/// The same, and no byte is written over after the pages that no stop has left there: they are kept aside first, and what
-/// keeps them is returned.
-///
-/// Its faults are those of `own_recorder_on` and of `keep_tail`, and after those of `keep_tail` nothing is written.
-pub fn keeping_recorder_on<D: Disk + Drop, A: Asides>(
-    alloc: Global,
-    disk: D,
-    asides: &mut A,
-) -> Result<(Recorder<D>, Option<Aside<A::Copy>>), Fault>
-    ensures held { IfOk result (λ (recorder, aside). recorder.held ≡ 0) }
-    ensures foreign { D.is_honest disk → IsForeign (front_of (D.state disk).contents)
-        → (result ≡ Err Fault.Foreign) ⊎ (result ≡ Err (Fault.Open OpenFaultOf.Disk)) }
-    // The copy holds what followed the pages before anything was written.
-    ensures kept { IfOk result (λ (recorder, aside). D.is_honest disk
-        → IsKeptAside A.Copy.Disk (D.state disk).contents aside) }
-{
-    let disk = own(disk)?;
-    match keep_tail(alloc, disk, asides) {
-        Ok((disk, aside)) => match recorder_on(alloc, disk) {
-            Ok(recorder) => Ok((recorder, aside)),
-            Err(fault) => Err(fault),
-        },
-        Err((fault, _)) => Err(fault),
-    }
-}
-
-/// The same disk, unless it begins with bytes that no recording begins with.
-fn own<D: Disk + Drop>(mut disk: D) -> Result<D, Fault>
+/// The same disk, unless it begins with bytes that no recording begins with. Nothing is written to it.
+fn own<D: Disk + Drop>(mut disk: D) -> Result<D, (Fault, D)>
     ensures same { IfOk result (λ same. D.is_honest disk → D.is_honest same × (D.state same ≡ D.state disk)) }
     ensures own { IfOk result (λ same. D.is_honest disk → IsForeign (front_of (D.state disk).contents) → ⊥) }
-    ensures why { IfErr result (λ fault. (fault ≡ Fault.Foreign) ⊎ (fault ≡ Fault.Open OpenFaultOf.Disk)) }
-    ensures only { D.is_honest disk → result ≡ Err Fault.Foreign → IsForeign (front_of (D.state disk).contents) }
+    ensures why { IfErr result (λ (fault, back). (fault ≡ Fault.Foreign) ⊎ (fault ≡ Fault.Open OpenFaultOf.Disk)) }
+    ensures left { IfErr result (λ (fault, back). D.is_honest disk → D.state back ≡ D.state disk) }
+    ensures only { IfErr result (λ (fault, back). D.is_honest disk → fault ≡ Fault.Foreign
+        → IsForeign (front_of (D.state disk).contents)) }
 {
     match is_foreign(&mut disk) {
         Ok(false) => Ok(disk),
-        Ok(true) => Err(Fault::Foreign),
-        Err(DiskFault) => Err(Fault::Open(OpenFault::Disk)),
+        Ok(true) => Err((Fault::Foreign, disk)),
+        Err(DiskFault) => Err((Fault::Open(OpenFault::Disk), disk)),
     }
 }
 

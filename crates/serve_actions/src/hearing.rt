@@ -4,12 +4,14 @@ ghost use Rattle.gate_file.specs.declared.fault.OpenFault.{OpenFault as OpenFaul
 ghost use Rattle.record_actions.specs.Foreign.{IsForeign, front_of};
 ghost use Rattle.record_actions.specs.Tail.{IsKeptAside};
 
-use disk_model::{Disk, FileDisk, FileMode};
+use disk_model::{Disk, FileDisk};
 use disk_tail::TailDisk;
 use fault_lines::Fault;
 use file_recorder::Recorder;
 use ogg_serve::Hub;
-use record_actions::{Aside, Asides, TailFiles, keeping_recorder_on, lock_file};
+use record_actions::{
+    Aside, Asides, LockedFile, Missing, Opening, TailFiles, lock_file, open_recorder,
+};
 use std::alloc::Global;
 
 /// A file whose last bytes are read from memory: they are what listeners hear.
@@ -22,7 +24,7 @@ const HEARD: usize = 262_144;
 /// A hub over a file that is recorded into while it is heard, with room for this many sessions. The file is made if there
 /// is none, and locked for as long as it is open. The station commits what waits.
 ///
-/// Its faults are those of `lock_file` and `keeping_recorder_on`, and `Memory`.
+/// Its faults are those of `lock_file` and of `open_recorder`, and `Memory`.
 pub fn hear_file(rt: &HostRuntime, file: &str, most: usize) -> Result<Hub<HeardDisk>, Fault>
     ensures room { IfOk result (λ hub. hub.room ≡ most) }
 {
@@ -35,32 +37,30 @@ pub fn hear_file(rt: &HostRuntime, file: &str, most: usize) -> Result<Hub<HeardD
 fn open_heard(rt: &HostRuntime, file: &str) -> Result<Recorder<HeardDisk>, Fault>
     ensures { IfOk result (λ recorder. recorder.held ≡ 0) }
 {
-    let disk = lock_file(rt, file, FileMode::Create)?;
-    match heard_on(rt.alloc(), disk, &mut TailFiles::of(rt, file)) {
+    let locked = lock_file(rt, file, Missing::Made)?;
+    match heard_on(rt.alloc(), locked, &mut TailFiles::of(rt, file)) {
         Ok((recorder, _)) => Ok(recorder),
         Err(fault) => Err(fault),
     }
 }
 
-/// A recorder on a disk whose last bytes are heard, and what keeps the tail that the disk had, unless a stop may have
+/// A recorder on a file whose last bytes are heard, and what keeps the tail that the file had, unless a stop may have
 /// left that. Nothing waits in it.
 ///
-/// Its faults are those of `keeping_recorder_on`, and `Memory`.
+/// Its faults are `Memory`, and those of `open_recorder`.
 fn heard_on<D: Disk + Drop, A: Asides>(
     alloc: Global,
-    disk: D,
+    file: LockedFile<D>,
     asides: &mut A,
 ) -> Result<(Recorder<TailDisk<D>>, Option<Aside<A::Copy>>), Fault>
     ensures held { IfOk result (λ (recorder, aside). recorder.held ≡ 0) }
-    ensures foreign { D.is_honest disk → IsForeign (front_of (D.state disk).contents)
+    ensures foreign { D.is_honest file → IsForeign (front_of (D.state file).contents)
         → (result ≡ Err Fault.Foreign) ⊎ (result ≡ Err (Fault.Open OpenFaultOf.Disk)) ⊎ (result ≡ Err Fault.Memory) }
-    ensures kept { IfOk result (λ (recorder, aside). D.is_honest disk
-        → IsKeptAside A.Copy.Disk (D.state disk).contents aside) }
+    ensures only { D.is_honest file → result ≡ Err Fault.Foreign → IsForeign (front_of (D.state file).contents) }
+    ensures kept { IfOk result (λ (recorder, aside). D.is_honest file
+        → IsKeptAside A.Copy.Disk (D.state file).contents aside) }
 {
-    match TailDisk::new(alloc, disk, HEARD) {
-        Ok(disk) => keeping_recorder_on(alloc, disk, asides),
-        Err(_) => Err(Fault::Memory),
-    }
+    open_recorder(alloc, file.heard(alloc, HEARD)?, Opening::Kept, asides)
 }
 
 /// A hub over the file of this recorder, in which nothing waits, with room for this many sessions.

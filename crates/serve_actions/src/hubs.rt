@@ -3,11 +3,11 @@ ghost use Rattle.std.specs.Prelude.{◌≡◌, ◌↔◌, ◌≤◌, IfErr, IfOk
 ghost use Rattle.disk_model.specs.Image.{IsSettled};
 ghost use Rattle.file_recorder.specs.Recorder.{committed};
 
-use disk_model::{Disk, FileDisk, FileMode};
+use disk_model::{Disk, FileDisk};
 use fault_lines::Fault;
 use file_recorder::Recorder;
 use ogg_serve::Hub;
-use record_actions::{open_recorder, seal_after};
+use record_actions::{Missing, Opening, TailFiles, lock_file, open_recorder, seal_after};
 use std::alloc::Global;
 
 /// A hub over a file, and whether the file had no tail when it was opened.
@@ -19,14 +19,16 @@ pub struct Opened<D: Disk> {
 
 /// Opens a file to be served, which is there already. Nothing waits in it.
 ///
-/// Its faults are those of `open_recorder`, and `Memory`.
+/// Its faults are those of `lock_file` and of `open_recorder`, and `Memory`.
 pub fn open_hub(rt: &HostRuntime, file: &str) -> Result<Opened<FileDisk>, Fault>
     ensures file { IfOk result (λ opened. IsSome opened.hub.file) }
     ensures none { IfOk result (λ opened. IfSome opened.hub.file (λ recorder. recorder.held ≡ 0)) }
     ensures sealed { IfOk result (λ opened. IfSome opened.hub.file
         (λ recorder. (opened.sealed ≡ true) ↔ (recorder.tail ≡ 0))) }
 {
-    let recorder = open_recorder(rt, file, FileMode::ReadWrite)?;
+    let locked = lock_file(rt, file, Missing::Refused)?;
+    let asides = &mut TailFiles::of(rt, file);
+    let (recorder, _) = open_recorder(rt.alloc(), locked, Opening::AsItIs, asides)?;
     hub_over(rt.alloc(), recorder)
 }
 

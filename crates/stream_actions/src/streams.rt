@@ -1,11 +1,14 @@
 //! The commands that read a feed from standard input.
-ghost use Rattle.std.specs.Prelude.{◌≡◌, ◌||◌, IfOk, IfErr, OnErr, Ok, Err, None, Some, true, false};
+ghost use Rattle.std.specs.Prelude.{◌≡◌, ◌⊎◌, ◌||◌, IfOk, IfErr, OnErr, Ok, Err, None, Some, true, false};
 ghost use Rattle.disk_model.specs.Image.{IsSettled};
 ghost use Rattle.fault_lines.specs.Fault.{fault_of_run};
 ghost use Rattle.fault_lines.specs.declared.fault.Fault.{Fault as FaultOf};
 ghost use Rattle.file_recorder.specs.Recorder.{committed};
+ghost use Rattle.gate_file.specs.declared.fault.OpenFault.{OpenFault as OpenFaultOf};
+ghost use Rattle.record_actions.specs.Foreign.{IsForeign, front_of};
+ghost use Rattle.record_actions.specs.Opening.{IsOpenFault};
 
-use disk_model::{Disk, FileDisk, FileMode};
+use disk_model::{Disk, FileDisk};
 use fault_lines::Fault;
 use feed_mux::{check_feed_for, mux_for};
 use feed_replies::{FeedFault, RunFault, Tally};
@@ -16,7 +19,11 @@ use import_feed::{ChangeOptions, make_feed, make_mended_feed};
 use import_renumber::Renumbered;
 use ogg_page::write_whole;
 use ogg_recorder::record_feed_for;
-use record_actions::{MendLines, open_own_recorder, open_recorder, seal_after};
+use record_actions::{
+    Asides, LockedFile, MendLines, Missing, Opening, TailFiles, lock_file, open_recorder,
+    seal_after,
+};
+use std::alloc::Global;
 use std::io::{self, BufReader, BufWriter, IsTerminal, Stdin, Write};
 use text_line::Line;
 
@@ -71,6 +78,18 @@ impl RecordEnds {
     {
         self.end_open || self.renumber
     }
+
+    /// How the file is opened.
+    fn opening(self) -> Opening
+        ensures own { (self.end_open || self.renumber) ≡ true → result ≡ Opening.Own }
+        ensures as_it_is { (self.end_open || self.renumber) ≡ false → result ≡ Opening.AsItIs }
+    {
+        if self.goes_on() {
+            Opening::Own
+        } else {
+            Opening::AsItIs
+        }
+    }
 }
 
 /// Records the feed on standard input into the file, which is made if there is none, and writes the replies to
@@ -92,14 +111,33 @@ pub fn record(
     record_by(rt, recorder, ends, strict)
 }
 
-/// Opens the file to record into it. What goes on with a file may not begin in one that holds something else.
+/// Opens the file to record into it, and locks it.
 fn open_file(rt: &HostRuntime, file: &str, ends: RecordEnds) -> Result<Recorder<FileDisk>, Fault>
     ensures { IfOk result (λ recorder. recorder.held ≡ 0) }
 {
-    if ends.goes_on() {
-        open_own_recorder(rt, file)
-    } else {
-        open_recorder(rt, file, FileMode::Create)
+    let locked = lock_file(rt, file, Missing::Made)?;
+    recorder_for(rt.alloc(), locked, ends, &mut TailFiles::of(rt, file))
+}
+
+/// A recorder on a file that was locked. Nothing waits in it. What goes on with a file may not begin in one that holds
+/// something else. No tail is kept.
+fn recorder_for<D: Disk + Drop, A: Asides>(
+    alloc: Global,
+    file: LockedFile<D>,
+    ends: RecordEnds,
+    asides: &mut A,
+) -> Result<Recorder<D>, Fault>
+    ensures held { IfOk result (λ recorder. recorder.held ≡ 0) }
+    ensures foreign { (ends.end_open || ends.renumber) ≡ true → D.is_honest file
+        → IsForeign (front_of (D.state file).contents)
+        → (result ≡ Err Fault.Foreign) ⊎ (result ≡ Err (Fault.Open OpenFaultOf.Disk)) }
+    ensures only { D.is_honest file → result ≡ Err Fault.Foreign → IsForeign (front_of (D.state file).contents) }
+    // As the specification has it, any file is recorded into that can be.
+    ensures as_it_is { (ends.end_open || ends.renumber) ≡ false → IfErr result IsOpenFault }
+{
+    match open_recorder(alloc, file, ends.opening(), asides) {
+        Ok((recorder, _)) => Ok(recorder),
+        Err(fault) => Err(fault),
     }
 }
 
