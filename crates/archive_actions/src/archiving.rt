@@ -129,7 +129,6 @@ pub(crate) fn unended_fault(unended: Unended) -> Fault
     match unended {
         Unended::Failed => Fault::Failed,
         Unended::Refused(_) => Fault::Refused,
-        Unended::Untold => Fault::Write,
     }
 }
 

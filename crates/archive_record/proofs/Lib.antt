@@ -1,3 +1,4 @@
+mod Ends
 mod Numbers
 mod Known
 mod Left
