@@ -1,6 +1,7 @@
 //! What a stream is recorded into: a file, or the files of a folder.
-ghost use Rattle.std.specs.Prelude.{◌≡◌, ◌↔◌, IfSome, IsTrue, None, Some, Ok, Err, true, false};
+ghost use Rattle.std.specs.Prelude.{◌≡◌, ◌<◌, IfSome, OnErr, None, Some, Ok, Err, true, false};
 ghost use Rattle.archive_record.specs.Files.{AllKept};
+ghost use Rattle.archive_record.specs.Filing.{HasExactly};
 ghost use Rattle.disk_model.specs.Image.{IsSettled};
 ghost use Rattle.file_recorder.specs.Recorder.{committed};
 
@@ -8,7 +9,7 @@ use crate::archiving::{end_open, open_ended, unended_fault};
 use crate::filing::{granted, now};
 use crate::keeping::Keeper;
 use archive_folder::Folder;
-use archive_record::{Archive, ArchiveFault, Rules, Unended};
+use archive_record::{Archive, ArchiveFault, Beside, Rules, Unended};
 use disk_model::{Disk, FileDisk};
 use fault_lines::Fault;
 use feed_runner::Runner;
@@ -362,29 +363,42 @@ impl<D: Disk + Drop, F: Folder<File = D> + Drop> FolderRecording<'_, D, F> {
             ..
         } = self;
         let told = keeper.told.fault();
-        let is_closed = !is_due(told, seal) || archive.close(&mut keeper);
+        let sealed = seal_newest(&mut archive, told, seal, &mut keeper);
         keeper.sync_ended();
-        after_closing(told, is_closed)
+        sealed
     }
 }
 
-/// Whether the newest file is sealed at the end: that is asked for, and no fault was told of.
-fn is_due(told: Option<Fault>, seal: bool) -> bool
-    ensures { IsTrue result ↔ (told ≡ None) × (seal ≡ true) }
+/// What a recording has come to. If there is a fault that was told of, it is that one, and the newest file stays as it
+/// stands. Else the newest file is sealed, if that is asked for and there is one; it is `Seal` if that fails.
+fn seal_newest<D: Disk + Drop, F: Folder<File = D> + Drop, B: Beside>(
+    archive: &mut Archive<D, F>,
+    told: Option<Fault>,
+    seal: bool,
+    beside: &mut B,
+) -> Result<(), Fault>
+    ensures told { IfSome told (λ fault. (result ≡ Err fault) × (archive.new ≡ archive.old)) }
+    ensures unasked { told ≡ None → seal ≡ false → (result ≡ Ok tt) × (archive.new ≡ archive.old) }
+    ensures none { told ≡ None → archive.old.newest ≡ None → (result ≡ Ok tt) × (archive.new ≡ archive.old) }
+    ensures failed { told ≡ None → seal ≡ true → IfSome archive.old.newest (λ newest.
+        newest.recorder.file.failed ≡ true → result ≡ Err Fault.Seal) }
+    ensures waits { told ≡ None → seal ≡ true → IfSome archive.old.newest (λ newest.
+        0 < newest.recorder.held → result ≡ Err Fault.Seal) }
+    ensures only { told ≡ None → OnErr result (result ≡ Err Fault.Seal) }
+    // If no file goes for want of room, one that is told as sealed has its committed bytes and nothing else.
+    ensures asked { told ≡ None → seal ≡ true → result ≡ Ok tt → archive.old.rotation.rules.keeping.bytes ≡ None
+        → IfSome archive.old.newest (λ newest. F.is_honest archive.old.rotation.files.folder
+        → D.is_honest newest.recorder.file.disk
+        → HasExactly D.Disk (F.file archive.new.rotation.files.folder) newest.name.number
+        (committed D.state newest.recorder)) }
 {
-    told.is_none() && seal
-}
-
-/// What a recording has come to: the fault that was told of, or whether all that was to be sealed is.
-fn after_closing(told: Option<Fault>, is_closed: bool) -> Result<(), Fault>
-    ensures told { IfSome told (λ fault. result ≡ Err fault) }
-    ensures unclosed { told ≡ None → is_closed ≡ false → result ≡ Err Fault.Seal }
-    ensures done { told ≡ None → is_closed ≡ true → result ≡ Ok tt }
-{
-    match told {
-        Some(fault) => Err(fault),
-        None if is_closed => Ok(()),
-        None => Err(Fault::Seal),
+    if let Some(fault) = told {
+        return Err(fault);
+    }
+    if !seal || archive.close(beside) {
+        Ok(())
+    } else {
+        Err(Fault::Seal)
     }
 }
 

@@ -1,6 +1,8 @@
 //! The machine of an archive: an input is recorded into the files of a folder, one after the other.
-ghost use Rattle.std.specs.Prelude.{◌≡◌};
+ghost use Rattle.std.specs.Prelude.{◌≡◌, ◌<◌, IfSome, None, true, false};
+ghost use Rattle.file_recorder.specs.Recorder.{committed};
 ghost use Rattle.archive_record.specs.Files.{AllKept};
+ghost use Rattle.archive_record.specs.Filing.{HasExactly};
 
 use crate::beside::Beside;
 use crate::ending::{Unended, end_open, end_streams};
@@ -315,13 +317,6 @@ impl<D: Disk + Drop, F: Folder<File = D> + Drop> Archive<D, F> {
         }
     }
 
-    /// Ends the file. Returns whether it is cut to its pages.
-    fn seal<B: Beside>(&mut self, newest: Newest<D>, beside: &mut B) -> bool {
-        let Newest { name, recorder, .. } = newest;
-        self.before = self.before.saturating_add(recorder.end());
-        self.rotation.end(name, recorder, beside)
-    }
-
     /// Ends the input: what is open is ended and kept. The newest file stays, to be gone on with.
     pub fn finish<B: Beside>(
         &mut self,
@@ -356,11 +351,23 @@ impl<D: Disk + Drop, F: Folder<File = D> + Drop> Archive<D, F> {
         ended
     }
 
-    /// Ends the newest file. Returns whether that was done, if there is one.
-    pub fn close<B: Beside>(&mut self, beside: &mut B) -> bool {
-        match self.newest.take() {
-            Some(newest) => self.seal(newest, beside),
-            None => true,
-        }
+    /// Ends the newest file, if there is one: it is cut to its pages, and nothing writes it again. Returns whether that
+    /// was done, if there is one.
+    pub fn close<B: Beside>(&mut self, beside: &mut B) -> bool
+        ensures none { self.old.newest ≡ None → (result ≡ true) × (self.new ≡ self.old) × (beside.new ≡ beside.old) }
+        ensures gone { self.new.newest ≡ None }
+        ensures failed { IfSome self.old.newest (λ newest. newest.recorder.file.failed ≡ true → result ≡ false) }
+        ensures waits { IfSome self.old.newest (λ newest. 0 < newest.recorder.held → result ≡ false) }
+        // If no file goes for want of room, one that has ended has its committed bytes, whatever stops, and nothing else.
+        ensures ended { result ≡ true → self.old.rotation.rules.keeping.bytes ≡ None → IfSome self.old.newest (λ newest.
+            F.is_honest self.old.rotation.files.folder → D.is_honest newest.recorder.file.disk
+            → HasExactly D.Disk (F.file self.new.rotation.files.folder) newest.name.number
+            (committed D.state newest.recorder)) }
+    {
+        let Some(Newest { name, recorder, .. }) = self.newest.take() else {
+            return true;
+        };
+        self.before = self.before.saturating_add(recorder.end());
+        self.rotation.end(name, recorder, beside)
     }
 }

@@ -224,6 +224,12 @@ impl<D: Disk + Drop, F: Folder<File = D> + Drop> Rotation<F> {
         ensures failed { recorder.file.failed ≡ true → result ≡ false }
         ensures waits { 0 < recorder.held → result ≡ false }
         ensures free { self.old.files.out ≡ Some name.number → self.new.files.out ≡ None }
+        // Only a file that is handed out is cut.
+        ensures out { result ≡ true → self.old.files.out ≡ Some name.number }
+        // If no file goes for want of room, one that has ended has its committed bytes, whatever stops, and nothing else.
+        ensures ended { result ≡ true → self.old.rules.keeping.bytes ≡ None → F.is_honest self.old.files.folder
+            → D.is_honest recorder.file.disk
+            → HasExactly D.Disk (F.file self.new.files.folder) name.number (committed D.state recorder) }
     {
         let end = recorder.end();
         // What is lost isn't in the file that is opened again.
@@ -275,7 +281,8 @@ impl<D: Disk + Drop, F: Folder<File = D> + Drop> Rotation<F> {
     /// may go. Returns whether it is the one of this name, and is cut.
     fn end_again<B: Beside>(&mut self, name: FileName, beside: &mut B) -> bool
         requires { self.old.files.out ≡ None }
-        ensures { self.new.files.out ≡ None }
+        ensures none { self.new.files.out ≡ None }
+        ensures bound { self.old.rules.keeping.bytes ≡ None → result ≡ false }
     {
         for _ in 0..self.tries() {
             if !self.make_room(beside) {
