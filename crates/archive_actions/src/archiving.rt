@@ -1,6 +1,7 @@
 //! A stream that is recorded as it comes.
-ghost use Rattle.std.specs.Prelude.{◌≡◌, ◌≢◌, ◌⊎◌, ◌↔◌, IfOk, OnOk, Err, true, false};
+ghost use Rattle.std.specs.Prelude.{◌≡◌, ◌≢◌, ◌⊎◌, ◌↔◌, [], IfOk, OnOk, OnErr, Err, true, false};
 ghost use Rattle.gate_file.specs.declared.fault.OpenFault.{OpenFault as OpenFaultOf};
+ghost use Rattle.import_changes.specs.Changed.{HasChangedBeside};
 ghost use Rattle.link_chain.specs.ChainState.{is_open};
 ghost use Rattle.ogg_command.specs.declared.refusal.Refusal.{Refusal as RefusalOf};
 ghost use Rattle.record_actions.specs.Foreign.{IsForeign, front_of};
@@ -138,17 +139,27 @@ pub(crate) fn record_stream<R: Recording>(
     recording: &mut R,
     skeletons: Skeletons,
 ) -> Result<(), Fault> {
+    let serials = recording.serials()?;
+    let mut import = import_beside(rt.alloc(), serials.as_slice(), skeletons)?;
+    let recorded = record_all(rt, recording, &mut import);
+    recording.close();
+    recorded
+}
+
+/// A run over a stream that is recorded beside streams with these serials: its own get others.
+fn import_beside(alloc: Global, serials: &[u32], skeletons: Skeletons) -> Result<ImportRun, Fault>
+    ensures renumbers { IfOk result (λ run. run.changes.options ≡ record { renumber = true; skeletons = skeletons }) }
+    ensures beside { IfOk result (λ run. HasChangedBeside serials.now run.changes [] []) }
+    ensures memory { OnErr result (result ≡ Err Fault.Memory) }
+{
     let options = ChangeOptions {
         renumber: true,
         skeletons,
     };
-    let serials = recording.serials()?;
-    let Ok(mut import) = ImportRun::new(rt.alloc(), ROOM, options, serials.as_slice()) else {
-        return Err(Fault::Memory);
-    };
-    let recorded = record_all(rt, recording, &mut import);
-    recording.close();
-    recorded
+    match ImportRun::new(alloc, ROOM, options, serials) {
+        Ok(import) => Ok(import),
+        Err(_) => Err(Fault::Memory),
+    }
 }
 
 /// Records what comes until the stream ends, or has to. Then what is open is ended, and what waits is kept.
