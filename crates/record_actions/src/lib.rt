@@ -1,9 +1,9 @@
 //! What is shared by all that record into a file, from standard input or as a server: the file is opened and sealed, and
 //! what the recording comes to is told.
 //!
-//! A file is locked by `lock_file`, and `open_recorder` alone gets a recorder from what was locked. It is sealed by the other
-//! functions of `recorders.rt`. `Told` tells of a recording as it goes, and at its end;
-//! `MendLines` writes a line for each mend. Faults are returned, and their lines are left to the caller.
+//! A file is locked by `lock_file`, and `open_recorder` alone gets a recorder from what was locked. It is sealed by the
+//! other functions of `recorders.rt`. `Told` tells of a recording as it goes, and at its end; `MendLines` writes a line
+//! for each mend. Faults are returned, and their lines are left to the caller.
 //!
 //! Start at `src/recorders.rt`.
 #![tactic(auto)]

@@ -22,7 +22,7 @@ const FRONT: usize = 8;
 /// How a file is opened to be recorded into.
 #[derive(Clone, Copy, Debug, PartialEq, Eq)]
 pub enum Opening {
-    /// Whatever it holds.
+    /// Whatever it holds, as the specification has it of `record`, `serve` and `live`.
     AsItIs,
     /// It holds a recording, or nothing yet.
     Own,
@@ -34,8 +34,8 @@ pub enum Opening {
 /// tail. Nothing waits in the recorder. Whoever opens a file by its name to record into it calls this.
 ///
 /// Unless it is opened as it is, it is `Foreign` first if it holds anything else than a recording, as far as its first
-/// bytes show that. Then its faults are those of `keep_tail`, if that is asked for. Nothing is written before these, nor
-/// after them. At last it is `Open`, with what `Recorder::open` has met. The file is let go after a fault.
+/// bytes show that. Then its faults are those of `keep_tail`, if that is asked for. Nothing is written before these,
+/// nor after them. At last it is `Open`, with what `Recorder::open` has met. The file is let go after a fault.
 pub fn open_recorder<D: Disk + Drop, A: Asides>(
     alloc: Global,
     file: LockedFile<D>,
