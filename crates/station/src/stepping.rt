@@ -20,6 +20,7 @@ ghost use Rattle.station_sources.specs.Taking.{is_foreign};
 ghost use Rattle.station.specs.Parting.{FeederParts, HasParted};
 ghost use Rattle.station.specs.Kept.{AreKept, AreLeft};
 ghost use Rattle.station.specs.Passing.{ArePassed};
+ghost use Rattle.station_hub.specs.Ending.{EndsOpen};
 ghost use Rattle.station_hub.specs.Live.{RecordsLive};
 ghost use Rattle.station_sources.specs.declared.air.OnAir.{OnAir as OnAirOf};
 ghost use Rattle.station_hub.specs.Patience.{is_due, until_due};
@@ -393,12 +394,14 @@ impl<D: Disk + Drop> Station<D> {
         }
     }
 
-    /// Ends each stream that the file's last link has open, and commits that. Unless nothing is left to be done then, it
-    /// returns what was refused first.
+    /// Ends each stream that the file's last link has open, and commits that. It stops at the first end that is refused.
+    /// Unless all of it is done then, it returns what was refused first.
     pub fn end_open(&mut self) -> Result<(), Refusal>
         ensures rest { self.new ≡ record self.old { live = self.new.live } }
         ensures rests { OnOk result (is_at_rest self.new.live.hub.file ≡ true) }
         ensures left { OnErr result (is_at_rest self.new.live.hub.file ≡ false) }
+        // Each stream that is open is tried in turn, up to the first whose end is refused.
+        ensures ends { EndsOpen result self.old.live.hub self.new.live.hub }
         ensures records { RecordsLive D.Disk self.old.live self.new.live }
     {
         self.live.end_open()
