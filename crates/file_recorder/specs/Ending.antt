@@ -61,8 +61,8 @@ module _ {D : Type 0} (answers : Progress D → Record → Reply → List ℕ �
       ⊎ ((replies : List Reply) × (refusal : Refusal) × EndRefused streams_in answers before after replies refusal
       × Appends lines new_lines (flat_map reply_line (replies ++ RefusedReply refusal ∷ [])))
 
-  -- Streams were ended in turn, and the lines of their replies were told; then the end of the next was answered, and its
-  -- line was not told, or only in part. If lines may wait, it may wait as a whole.
+  -- Streams were ended in turn, and the lines of their replies were told; then the end of the next was answered, and
+  -- its line was not told, or only in part. If lines may wait, it may wait as a whole.
   pub record HasToldSome (waits : Bool) (before after : Progress D) (lines new_lines : Option (List ℕ)) : Type 0 where
     pub mid : Progress D
     pub replies : List Reply
