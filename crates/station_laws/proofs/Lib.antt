@@ -3,6 +3,7 @@ mod Early
 mod InTime
 mod Listened
 mod Owing
+mod Patient
 mod Placed
 mod Rising
 mod Seen

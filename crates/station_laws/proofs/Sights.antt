@@ -166,7 +166,7 @@ module _ {D : Type 0} (model : DiskModel D) (laws : Laws) where
   asked_any true password places bytes old new client after (same, inr (inr (inr (cause, last)))) = inr (same, last)
 
   received_own : (key other : ℕ) (bytes : List ℕ) (now : ℕ) (old new : Station D) (before : HubState) (client : ClientState)
-      → HasReceived model other bytes old new → get old.clients.slots other ≡ Some client
+      → HasReceived model other bytes now old new → get old.clients.slots other ≡ Some client
       → Shows model old.live.hub before → AreApart before old.clients.slots → Sees model key (Received other bytes now) old new before
   received_own key other bytes now old new before client is found shown are =
       let call : ℕ → Call = λ k. Received k bytes now in

@@ -1,24 +1,28 @@
 -- The calls of a station, and what each leaves of it. Ours.
-use Rattle.std.specs.Prelude.{◌≡◌, ◌≢◌, ◌⊎◌, ◌≤◌, ◌<◌, ◌-◌, ⊤, ℕ, Bool, true, Option, Some, None, Result, Ok, Err, List, [], ◌∷◌}
+use Rattle.std.specs.Prelude.{◌≡◌, ◌≢◌, ◌⊎◌, ◌≤◌, ◌<◌, ◌-◌, ⊤, ℕ, Bool, true, false, Option, Some, None, Result, Ok, Err, List, [], ◌∷◌}
 use Rattle.disk_model.specs.declared.disk.Disk.{Ghosts as DiskModel}
 use Rattle.serve_clients.specs.Client.{ClientState, HasWritten, after_of, fresh, given, moved_if, with_line, with_stage}
 use Rattle.serve_clients.specs.Clients.{AllStay, AreLookedAt, HasTurn, OthersStay, told_by, unread_by, unwritten_by}
 use Rattle.serve_clients.specs.Line.{moved_on, taken_off}
+use Rattle.serve_clients.specs.Patience.{is_refused}
 use Rattle.serve_clients.specs.declared.client.After.TheVariants.{Shuts}
-use Rattle.serve_clients.specs.declared.client.Stage.TheVariants.{Asking, Waiting, Reading, Closing}
+use Rattle.serve_clients.specs.declared.client.Stage.TheVariants.{Asking, Waiting, Feeding, Reading, Closing}
 use Rattle.serve_clients.specs.declared.line.Trouble.{Trouble}
 use Rattle.serve_hub.specs.Showing.{Shows}
 use Rattle.serve_machine.specs.Calls.{Steps}
 use Rattle.serve_machine.specs.Hub.{Receive}
 use Rattle.serve_machine.specs.declared.answers.Progress.{Progress}
 use Rattle.serve_machine.specs.declared.fault.HubFault.{HubFault}
+use Rattle.serve_sources.specs.Answers.{refusal}
+use Rattle.serve_sources.specs.declared.refused.Refused.TheVariants.{OnTheAir}
 use Rattle.slab.specs.Slab.{get, slab_len}
 use Rattle.station_hub.specs.Asking.{stage_after}
 use Rattle.station_hub.specs.Giving.{Gives}
 use Rattle.station_hub.specs.Live.{RecordsLive, StaysLive}
-use Rattle.station.specs.Asked.{EndsSession}
+use Rattle.station.specs.Asked.{EndsSession, HasLast}
 use Rattle.station.specs.Spare.{IsAskedIn, is_spare}
 use Rattle.station.specs.Ending.{is_over}
+use Rattle.station.specs.Kept.{AreKept}
 use Rattle.station.specs.Passing.{ArePassed, GoesOnAsSource, IsLike, expects_nothing, is_source, session_in}
 use Rattle.station.specs.Turning.{IsTurnedAway, half_closed}
 use Rattle.station.specs.declared.station.Station.{Station}
@@ -67,7 +71,7 @@ module _ {D : Type 0} (model : DiskModel D) where
     pub others : OthersStay key old.clients new.clients
     pub recorded : StaysLive model old.live new.live
 
-  pub record HasReceived (key : ℕ) (bytes : List ℕ) (old new : Station D) : Type 0 where
+  pub record HasReceived (key : ℕ) (bytes : List ℕ) (now : ℕ) (old new : Station D) : Type 0 where
     pub reads : (client : ClientState) (id : ℕ) → get old.clients.slots key ≡ Some client → client.stage ≡ Reading → client.session ≡ Some id
         → (progress : Result Progress HubFault)
         × Steps (Shows model) old.live.hub new.live.hub (λ machine. Receive id bytes progress)
@@ -76,6 +80,11 @@ module _ {D : Type 0} (model : DiskModel D) where
         × (get new.clients.slots key ≡ Some after) × IsAskedIn model (is_spare key old.spare.items) old.options.password old.live.places bytes old.live.hub new.live.hub client after
     pub offers : (client : ClientState) → get old.clients.slots key ≡ Some client → is_source client.stage ≡ true → (after : ClientState)
         × (get new.clients.slots key ≡ Some after) × GoesOnAsSource client after × (new.live.hub ≡ old.live.hub)
+    -- one that waits for the air stays as it is, and one that has it has sent now
+    pub waits : (client : ClientState) → get old.clients.slots key ≡ Some client → client.stage ≡ Waiting
+        → get new.clients.slots key ≡ Some (with_line (moved_on client.line) client)
+    pub heard : (client : ClientState) → get old.clients.slots key ≡ Some client → client.stage ≡ Feeding
+        → get new.clients.slots key ≡ Some (record client { since = now; line = moved_on client.line })
     pub ignores : (client : ClientState) → get old.clients.slots key ≡ Some client → expects_nothing client.stage ≡ true → (after : ClientState)
         × (get new.clients.slots key ≡ Some after) × IsLike client after × (new.live.hub ≡ old.live.hub)
     pub unread : (client : ClientState) → get old.clients.slots key ≡ Some client → client.stage ≡ Reading → client.session ≡ None → (after : ClientState)
@@ -96,6 +105,14 @@ module _ {D : Type 0} (model : DiskModel D) where
         × (get new.clients.slots key ≡ Some (given count (is_over old.air old.ending) now after))
     pub waits : (client : ClientState) → get old.clients.slots key ≡ Some client → client.stage ≡ Waiting → (after : ClientState)
         × (get new.clients.slots key ≡ Some after) × GoesOnAsSource client after × (new.live.hub ≡ old.live.hub)
+    -- It is refused once it has waited for a second, and waits on before; nothing is given for it then.
+    pub refuses : (client : ClientState) → get old.clients.slots key ≡ Some client → client.stage ≡ Waiting → is_refused client now ≡ true
+        → (after : ClientState) × HasLast (refusal OnTheAir) client after
+        × (get new.clients.slots key ≡ Some (given count (is_over old.air old.ending) now after))
+    pub goes_on : (client : ClientState) → get old.clients.slots key ≡ Some client → client.stage ≡ Waiting → is_refused client now ≡ false
+        → get new.clients.slots key ≡ Some (given count (is_over old.air old.ending) now client)
+    pub silent : (client : ClientState) → get old.clients.slots key ≡ Some client → client.stage ≡ Waiting → is_refused client now ≡ false
+        → client.unsent ≡ [] → count ≡ 0
     pub none : get old.clients.slots key ≡ None → (get new.clients.slots key ≡ None) × (new.live.hub ≡ old.live.hub)
     pub others : OthersStay key old.clients new.clients
     pub recorded : StaysLive model old.live new.live
@@ -135,6 +152,8 @@ module _ {D : Type 0} (model : DiskModel D) where
   pub record HasTurned (key : ℕ) (old new : Station D) : Type 0 where
     pub stays : (client : ClientState) → get old.clients.slots key ≡ Some client → (after : ClientState) × (get new.clients.slots key ≡ Some after)
         × (IsLike client after ⊎ ((after_of client ≡ Shuts) × IsLike (with_stage Closing client) after))
+    pub since : (client after : ClientState) → get old.clients.slots key ≡ Some client → after_of client ≢ Shuts
+        → get new.clients.slots key ≡ Some after → after.since ≡ client.since
     pub none : get old.clients.slots key ≡ None → get new.clients.slots key ≡ None
     pub others : OthersStay key old.clients new.clients
     pub live : new.live ≡ old.live
@@ -144,8 +163,9 @@ module _ {D : Type 0} (model : DiskModel D) where
     pub late : 1000 ≤ now - old.looked → AreLookedAt now old.clients new.clients
     pub live : new.live ≡ old.live
 
-  pub record HasStepped (old new : Station D) : Type 0 where
+  pub record HasStepped (now : ℕ) (old new : Station D) : Type 0 where
     pub records : RecordsLive model old.live new.live
+    pub kept : AreKept old.options.password now old.clients.slots new.clients.slots
     pub passed : ArePassed old.clients.slots new.clients.slots
 
   -- ---- any call
@@ -154,7 +174,7 @@ module _ {D : Type 0} (model : DiskModel D) where
   IsCall (Accepted now (Ok key)) old new = IsAccepted now key old new
   IsCall (Accepted now (Err fault)) old new = AllStay old.clients new.clients × (new.live ≡ old.live)
   IsCall (Closed key) old new = IsClosed key old new
-  IsCall (Received key bytes now) old new = HasReceived key bytes old new
+  IsCall (Received key bytes now) old new = HasReceived key bytes now old new
   IsCall (PeerEnded key) old new = HasPeerEnded key old new
   IsCall (Next key size now count buffer) old new = HasGiven key size now count buffer old new
   IsCall (Wrote key bytes count now) old new = WasWritten key bytes count now old new
@@ -165,7 +185,7 @@ module _ {D : Type 0} (model : DiskModel D) where
   IsCall (NextTurn (Some key)) old new = HasTurnNow key old new
   IsCall (Turned key now) old new = HasTurned key old new
   IsCall (Looked now) old new = HasLooked now old new
-  IsCall (Stepped now) old new = HasStepped old new
+  IsCall (Stepped now) old new = HasStepped now old new
   IsCall EndedOpen old new = RecordsLive model old.live new.live × (new.clients ≡ old.clients)
   IsCall Aside old new = (new.clients ≡ old.clients) × (new.live ≡ old.live)
 

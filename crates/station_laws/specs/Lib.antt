@@ -1,4 +1,5 @@
 pub mod Calling
+pub mod Patience
 pub mod Recorded
 pub mod Serving
 pub mod Written
