@@ -24,22 +24,14 @@ use Rattle.link_chain.specs.ChainState.{ChainState, chain_state_of, is_open}
 use Rattle.link_chain.specs.Progress.{change_at, ended_by, next_in}
 use Rattle.chain_rules.specs.Decision.{decision}
 use Rattle.chain_rules.specs.Encoding.{links_after}
-use Rattle.chain_rules.proofs.EndState.{end_state}
+use Rattle.file_recorder.proofs.EndState.{end_state}
 use Rattle.file_recorder.specs.Recovery.{Links}
 use Rattle.file_recorder.specs.Recorder.{RecorderState}
 use Rattle.file_recorder.specs.Running.{Progress, Answers, AnsweredBy, Becomes, Replies, streams_in}
 use Rattle.file_recorder.specs.Taking.{IsWholeChain}
-use Rattle.file_recorder.specs.Ending.{AreEnded, AllEnded, AnswersEnd, EndRefused, HasToldSome, first_open, is_unended}
+use Rattle.file_recorder.specs.Ending.{AreEnded, AllEnded, AnswersEnd, EndRefused, HasToldSome, first_open, is_unended, one_if_unended, unended}
 
 -- ---- an end that is taken leaves a stream less
-abbrev pub one_if_unended : StreamState → ℕ
-one_if_unended stream = cond stream.ended 0 1
-
--- how many streams haven't ended
-abbrev pub unended : List StreamState → ℕ
-unended [] = 0
-unended (stream ∷ streams) = one_if_unended stream + unended streams
-
 -- the first stream that hasn't ended, for each stream that is looked at
 abbrev first_with : Bool → StreamState → List StreamState → Option ℕ
 first_with ended stream streams = option_map (λ (s : StreamState). s.serial) (cond (not ended) (Some stream) (find is_unended streams))

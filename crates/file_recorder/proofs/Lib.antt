@@ -11,5 +11,6 @@ mod Small
 pub mod Stepping
 pub mod Walked
 pub mod Bytes
-pub mod EndsInTurn
+mod EndState
+mod EndsInTurn
 pub mod Steps

@@ -1,5 +1,5 @@
 -- Streams that an earlier run left open are ended. Ours.
-use Rattle.std.specs.Prelude.{◌≡◌, ◌⊎◌, ℕ, not, Option, None, Some, option_map, List, [], ◌∷◌, ◌++◌, Bool, false, find}
+use Rattle.std.specs.Prelude.{◌≡◌, ◌⊎◌, ◌+◌, ℕ, cond, not, Option, None, Some, option_map, List, [], ◌∷◌, ◌++◌, Bool, false, find}
 use Rattle.std.specs.List.{flat_map, AllByRecursion}
 use Rattle.std.specs.Io.KnownBytes.{Appends}
 use Rattle.ogg_command.specs.declared.command.Command.TheVariants.{End as EndOf}
@@ -21,6 +21,14 @@ is_unended stream = not stream.ended
 -- the serial of the first stream that hasn't ended, if there is one
 abbrev pub first_open : List StreamState → Option ℕ
 first_open streams = option_map (λ (stream : StreamState). stream.serial) (find is_unended streams)
+
+abbrev pub one_if_unended : StreamState → ℕ
+one_if_unended stream = cond stream.ended 0 1
+
+-- how many streams haven't ended
+abbrev pub unended : List StreamState → ℕ
+unended [] = 0
+unended (stream ∷ streams) = one_if_unended stream + unended streams
 
 -- the command that ends the first of these streams that hasn't ended
 abbrev pub EndsFirst : List StreamState → Record → Type 0

@@ -1,5 +1,5 @@
 //! What is recovered of a file, whatever happens to it.
-ghost use Rattle.std.specs.Prelude.{◌≡◌, ◌⊎◌, ◌++◌, [], true, ℕ, List, take};
+ghost use Rattle.std.specs.Prelude.{◌≡◌, ◌⊎◌, ◌++◌, ◌<◌, [], false, true, ℕ, List, Some, take};
 ghost use Rattle.disk_model.specs.Image.{IsImage};
 ghost use Rattle.ogg_page.specs.declared.fault.PageFault.{PageFault as PageFaultOf};
 ghost use Rattle.gate_file.specs.Found.{IsDamagedAt};
@@ -14,14 +14,16 @@ ghost use Rattle.history.specs.World.{World, Call, Step, begun, commands};
 ghost use Rattle.history.specs.Commands.{ShowsFirst};
 ghost use Rattle.history.specs.History.{Leaves, MayBegin, IsHistory};
 ghost use Rattle.file_recorder.specs.Recovery.{Links, Shows, Accepts};
-ghost use Rattle.file_recorder.specs.Taking.{HoldsChain, IsBrokenAt, IsUnfinished};
+ghost use Rattle.file_recorder.specs.Taking.{HoldsChain, IsBrokenAt, IsUnfinished, IsWholeChain};
 ghost use Rattle.feed_records.specs.declared.item.Record.{Record};
 ghost use Rattle.feed_replies.specs.declared.reply.Reply.{Reply};
 ghost use Rattle.feed_runner.specs.Answering.{AnswersAll};
 ghost use Rattle.feed_runner.specs.Counting.{kept_after};
 ghost use Rattle.chain_rules.specs.Commands.{bytes_of_commands};
-ghost use Rattle.file_recorder.specs.Recorder.{committed};
-ghost use Rattle.file_recorder.specs.Running.{Progress, Answers};
+ghost use Rattle.file_recorder.specs.Recorder.{RecorderState, committed};
+ghost use Rattle.file_recorder.specs.Running.{Progress, Answers, Replies};
+ghost use Rattle.file_recorder.specs.Ending.{first_open, unended};
+ghost use Rattle.feed_runner.specs.Refusing.{refuses};
 ghost use Rattle.file_recorder.specs.Steps.{HasSteps, HasWaiting};
 
 use chain_rules::refusals_are_of_the_table;
@@ -128,3 +130,11 @@ pub fn records_are_steps<D: Disk>()
 {
     refusals_are_of_the_table();
 }
+
+/// The end of the first open stream that isn't refused leaves a stream less open: so who ends one stream after the other
+/// comes to an end.
+pub fn ends_leave_fewer_open<D: Disk>()
+    ensures { (old new : RecorderState D) (serial : ℕ) (reply : Reply) → IsWholeChain old.chain → first_open old.chain.streams ≡ Some serial
+        → Replies old (Record.Command (CommandOf.End serial)) reply new → refuses reply ≡ false
+        → unended new.chain.streams < unended old.chain.streams }
+{}

@@ -23,8 +23,8 @@ pub use ending::{end_open_streams, end_streams, first_open};
 pub use feed_replies::{Kept, Outcome};
 pub use gate_file::OpenFault;
 pub use laws::{
-    Recorded, acknowledged_commands_survive, images_show_one_recording, records_are_steps,
-    what_shows_a_recording_is_opened,
+    Recorded, acknowledged_commands_survive, ends_leave_fewer_open, images_show_one_recording,
+    records_are_steps, what_shows_a_recording_is_opened,
 };
 pub use recorder::Recorder;
 pub use running::{reply_to, reply_to_flush};

@@ -33,7 +33,7 @@ use crate::places::{Answered, Places};
 use disk_model::Disk;
 use feed_replies::Reply;
 use feed_runner::Runner;
-use file_recorder::{Recorder, first_open};
+use file_recorder::{Recorder, ends_leave_fewer_open, first_open};
 use gate_file::OpenFault;
 use link_chain::is_open;
 use ogg_command::{Command, Refusal, command_is_in_range};
@@ -154,6 +154,8 @@ impl<D: Disk + Drop> LiveHub<D> {
             × EndRefused streams_of HubReplies self.old.hub self.new.hub replies refusal) }
         ensures records { RecordsLive D.Disk self.old self.new }
     {
+        // For the proof alone.
+        ends_leave_fewer_open::<D>();
         while let Some(serial) = first_open(self.hub.streams()) {
             if let Reply::Refused(refusal) = self.end_stream(serial) {
                 return Err(refusal);

@@ -1,8 +1,7 @@
 use Rattle.std.proofs.Common.{◌≡◌, List}
 use Rattle.feed_replies.specs.declared.reply.Reply.{Reply}
 use Rattle.file_recorder.specs.Running.{Answers, Progress, streams_in}
-use Rattle.file_recorder.specs.Ending.{AreEnded}
-use Rattle.file_recorder.proofs.EndsInTurn.{unended}
+use Rattle.file_recorder.specs.Ending.{AreEnded, unended}
 use Rattle.file_recorder.proofs.ending.end_streams.Given as goal
 
 -- each turn ends a stream

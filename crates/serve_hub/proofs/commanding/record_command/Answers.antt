@@ -1,7 +1,6 @@
 use Rattle.chain_rules.specs.Decision.{decision}
-use Rattle.file_recorder.proofs.Answered.{answered_by}
-use Rattle.file_recorder.proofs.Refused.{not_disk}
 use Rattle.serve_hub.proofs.Linked.{linked_command, recorded_in}
+use Rattle.serve_hub.proofs.Replied.{answered_by, not_disk}
 use Rattle.serve_hub.proofs.Stepping.{commands}
 use Rattle.serve_hub.proofs.commanding.record_command.Goals as goal
 

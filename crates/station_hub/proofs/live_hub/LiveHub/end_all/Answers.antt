@@ -1,9 +1,8 @@
 use Rattle.std.proofs.Common.{[], ◌∷◌, ◌++◌, ◌∙◌, ap, sym}
 use Rattle.file_recorder.specs.Ending.{first_open}
-use Rattle.file_recorder.proofs.EndsInTurn.{ends_on, none_left, not_refused, nothing_yet}
 use Rattle.station_hub.specs.Ending.{HubReplies, streams_of}
 use Rattle.station_hub.specs.LiveLaws.{records_none, records_then}
-use Rattle.station_hub.proofs.Ended.{fewer_in, refused_in}
+use Rattle.station_hub.proofs.Ended.{ends_on, fewer_in, none_left, not_refused, nothing_yet, refused_in}
 use Rattle.station_hub.proofs.live_hub.LiveHub.end_all.Goals as goal
 
 pub loop-serial-init : goal.loop-serial-init
@@ -28,7 +27,7 @@ pub loop-serial-smaller : goal.loop-serial-smaller
 loop-serial-smaller g c =
     let first = ap first_open (sym c.streams.ensures.streams) ∙ (sym c.first_open.ensures ∙ c.in-Some.is) in
     let reply = c.end_stream.result in
-    fewer_in c.loop-serial.self.hub.file c.end_stream.new.self.hub.file c.in-Some.serial reply first c.end_stream.ensures.replied
+    fewer_in c.ends_leave_fewer_open.ensures c.loop-serial.self.hub.file c.end_stream.new.self.hub.file c.in-Some.serial reply first c.end_stream.ensures.replied
     (not_refused reply c.in_default-end_stream.not-Refused)
 
 pub returns-in-Refused-clause-refused : goal.returns-in-Refused-clause-refused

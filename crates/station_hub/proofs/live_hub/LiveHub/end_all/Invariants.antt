@@ -1,7 +1,6 @@
 use Rattle.std.proofs.Common.{List}
 use Rattle.feed_replies.specs.declared.reply.Reply.{Reply}
-use Rattle.file_recorder.specs.Ending.{AreEnded}
-use Rattle.file_recorder.proofs.EndsInTurn.{unended}
+use Rattle.file_recorder.specs.Ending.{AreEnded, unended}
 use Rattle.station_hub.specs.Ending.{HubReplies, streams_of}
 use Rattle.station_hub.specs.Live.{RecordsLive}
 use Rattle.station_hub.proofs.live_hub.LiveHub.end_all.Given as goal
