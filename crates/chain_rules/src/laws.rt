@@ -1,11 +1,13 @@
 //! What always holds of the commands and the pages that a chain takes.
-ghost use Rattle.std.specs.Prelude.{◌≡◌, ◌≤◌, ◌<◌, ◌++◌, Ok, Err, List, [], ℕ, length};
+ghost use Rattle.std.specs.Prelude.{◌≡◌, ◌≤◌, ◌<◌, ◌+◌, ◌++◌, Ok, Err, List, [], ℕ, length};
 ghost use Rattle.std.specs.List.{AllByRecursion};
 ghost use Rattle.ogg_page.specs.Page.{Page, IsPage};
 ghost use Rattle.ogg_command.specs.Command.{IsCommand};
 ghost use Rattle.link_chain.specs.Links.{AreLinks};
 ghost use Rattle.chain_rules.specs.Recording.{Recording, HoldsLinks, Holds, add, after};
 ghost use Rattle.link_chain.specs.ChainState.{ChainState, chain_state_of};
+ghost use Rattle.link_chain.specs.Followed.{moved_by};
+ghost use Rattle.link_chain.specs.Progress.{ended_by, next_in};
 ghost use Rattle.chain_rules.specs.Decision.{decision};
 ghost use Rattle.chain_rules.specs.Encoding.{command_bytes, links_after, pages_of_command};
 ghost use Rattle.chain_rules.specs.Commands.{AreKept, bytes_of_commands, links_behind};
@@ -55,4 +57,12 @@ pub fn command_adds_pages()
 pub fn refusals_are_of_the_table()
     ensures { (chain : ChainState) (command : CommandOf) (refusal : RefusalOf) → decision chain command ≡ Err refusal →
         (2 ≤ code_of refusal) × (code_of refusal ≤ 19) }
+{}
+
+/// An end that isn't refused adds a page of 27 bytes, the last one of its stream, which has ended then. The other streams
+/// stay as they are.
+pub fn ends_end_their_streams()
+    ensures { (links : List (List Page)) (serial size : ℕ) → decision (chain_state_of links) (CommandOf.End serial) ≡ Ok size →
+        chain_state_of (links_after links (CommandOf.End serial))
+        ≡ moved_by (chain_state_of links) serial (ended_by (next_in (chain_state_of links).streams serial + 1)) 27 }
 {}

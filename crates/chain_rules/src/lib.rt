@@ -26,7 +26,7 @@ mod shape;
 pub use command_pages::CommandPages;
 pub use laws::{
     command_adds_its_packets, command_adds_pages, commands_add_their_packets,
-    refusals_are_of_the_table,
+    ends_end_their_streams, refusals_are_of_the_table,
 };
 pub use link_chain::{
     Chain, ChainFault, Serials, StreamState, links_left_whole_hold_a_recording,

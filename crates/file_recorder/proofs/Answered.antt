@@ -1,7 +1,7 @@
 -- The records of a feed are answered, each as a step of a history.
-use Rattle.std.proofs.Common.{◌≡◌, ◌≢◌, ◌⊎◌, ◌↔◌, ⊎_elim, ℕ, zero, suc, ◌+◌, ◌-◌, ◌^◌, ◌<◌, ◌≤◌, Bool, true, false, List, [], ◌∷◌, ◌++◌, refl, sym, ap, ◌∙◌, subst, arith, append_assoc, Result, Ok, Err}
+use Rattle.std.proofs.Common.{◌≡◌, ◌⊎◌, ◌↔◌, ⊎_elim, ℕ, ◌+◌, ◌-◌, ◌^◌, ◌<◌, ◌≤◌, Bool, true, false, List, [], ◌∷◌, ◌++◌, refl, sym, ap, ◌∙◌, subst, arith, append_assoc, Result, Ok, Err}
 use Rattle.std.proofs.lemmas.List.{append-nil, append_cancel_left}
-use Rattle.std.specs.Prelude.{IsOk, IfOk, IfErr, OnOk}
+use Rattle.std.specs.Prelude.{IfOk, IfErr, OnOk}
 use Rattle.disk_model.specs.declared.disk.Disk.{Ghosts as DiskModel}
 use Rattle.disk_model.specs.Image.{DiskState}
 use Rattle.feed_records.specs.declared.item.Record.{Record}
@@ -9,81 +9,26 @@ use Rattle.feed_records.specs.declared.item.Record.TheVariants.{Command as Comma
 use Rattle.feed_replies.specs.declared.reply.Kept.{Kept as KeptOf}
 use Rattle.feed_replies.specs.declared.reply.Reply.{Reply}
 use Rattle.feed_replies.specs.declared.reply.Reply.TheVariants.{Refused as RefusedReply}
-use Rattle.link_chain.specs.ChainState.{chain_state_of}
 use Rattle.link_chain.specs.Recording.{Recording}
-use Rattle.chain_rules.specs.Encoding.{command_bytes, links_after}
+use Rattle.chain_rules.specs.Encoding.{command_bytes}
 use Rattle.chain_rules.specs.Recording.{add}
 use Rattle.ogg_command.specs.declared.command.Command.{Command}
 use Rattle.ogg_command.specs.declared.refusal.Refusal.{Refusal}
-use Rattle.ogg_command.specs.declared.refusal.Refusal.TheVariants.{Failed, Memory, Disk}
+use Rattle.ogg_command.specs.declared.refusal.Refusal.TheVariants.{Failed, Disk}
 use Rattle.history.specs.World.{World, Step, happens, run}
 use Rattle.history.specs.History.{AreSteps}
 use Rattle.feed_replies.specs.declared.outcome.Outcome.{Outcome}
 use Rattle.feed_replies.specs.declared.outcome.Outcome.TheVariants.{Held as WasHeld, Kept as WasKept}
-use Rattle.file_recorder.specs.Recovery.{Links, Shows, Accepts}
-use Rattle.file_recorder.specs.Recorder.{RecorderState, IsIn, recorder_state, committed, staged, IsRecorderStep}
-use Rattle.file_recorder.specs.Answer.{Tells, kept_by, call_of, command_step, flush_step}
-use Rattle.file_recorder.specs.Small.{begins_link}
-use Rattle.file_recorder.specs.Running.{Progress, progress, Answers, Replies, Writes, AnsweredBy, FlushedBy, FlushBecomes, Becomes, Fails, reply_of, reply_of_flush, steps_of}
+use Rattle.file_recorder.specs.Recovery.{Shows, Accepts}
+use Rattle.file_recorder.specs.Recorder.{RecorderState, IsIn, committed, staged, IsRecorderStep}
+use Rattle.file_recorder.specs.Answer.{call_of, command_step, flush_step}
+use Rattle.file_recorder.specs.Running.{Progress, progress, Answers, Replies, Writes, FlushedBy, reply_of, reply_of_flush, steps_of}
 use Rattle.file_recorder.proofs.Lasting.{never}
 use Rattle.file_recorder.proofs.Stepping.{is_open}
 
 -- what holds of a recorder holds however that recorder was reached
 pub at_reached : {D : Type 0} (before : Progress D) (recorder : RecorderState D) (Q : Progress D → Type 0) → before.now ≡ recorder → Q (progress before.first before.world recorder) → Q before
 at_reached before recorder Q same q = subst (λ (r : RecorderState _). Q (progress before.first before.world r)) (sym same) q
-
--- ---- replies
--- what isn't false is true
-otherwise_begins : (b : Bool) → (b ≡ false → ⊥) → b ≡ true
-otherwise_begins true refuted = refl
-otherwise_begins false refuted = absurd (refuted refl)
-
-pub answered_by : {D : Type 0} (failed : Bool) (decided : Result ℕ Refusal) (r : Result Outcome Refusal) (old new : RecorderState D) (command : Command)
-    → (failed ≡ true → r ≡ Err Failed)
-    → (failed ≡ false → (refusal : Refusal) → decided ≡ Err refusal → r ≡ Err refusal)
-    → (failed ≡ false → IsOk decided → IfErr r (λ refusal. (refusal ≡ Memory) ⊎ (refusal ≡ Disk)))
-    → IfErr r (λ refusal. refusal ≢ Disk → new ≡ old)
-    → IfErr r (λ refusal. refusal ≡ Disk → Fails old new)
-    → IfOk r (λ outcome. Tells old outcome new)
-    → OnOk r (new.file.failed ≡ false)
-    → OnOk r ((links : Links) → old.chain ≡ chain_state_of links → new.chain ≡ chain_state_of (links_after links command))
-    → ((refusal : Refusal) → decided ≡ Err refusal → refusal ≢ Disk)
-    → (begins_link command ≡ false → r ≢ Err Memory)
-    → AnsweredBy failed decided old command (reply_of r) new
-answered_by true decided r old new command by_failed by_rules otherwise same faulted tells good links not_disk memory =
-    let is : r ≡ Err Failed = by_failed refl in (
-      ap reply_of is,
-      subst (λ (s : Result Outcome Refusal). IfErr s (λ refusal. refusal ≢ Disk → new ≡ old)) is same (λ e. cc e),
-    )
-answered_by false (Err refusal) r old new command by_failed by_rules otherwise same faulted tells good links not_disk memory =
-    let is : r ≡ Err refusal = by_rules refl refusal refl in (
-      ap reply_of is,
-      subst (λ (s : Result Outcome Refusal). IfErr s (λ q. q ≢ Disk → new ≡ old)) is same (not_disk refusal refl),
-    )
-answered_by false (Ok size) (Ok (WasHeld count)) old new command by_failed by_rules otherwise same faulted tells good links not_disk memory = (tells, (good, links))
-answered_by false (Ok size) (Ok (WasKept kept)) old new command by_failed by_rules otherwise same faulted tells good links not_disk memory = (tells, (good, links))
-answered_by false (Ok size) (Err refusal) old new command by_failed by_rules otherwise same faulted tells good links not_disk memory =
-    ⊎_elim (λ is. subst (λ (q : Refusal). Becomes old command (RefusedReply q) new) (sym is)
-    (otherwise_begins (begins_link command) (λ none. memory none (ap Err is)), same (λ disk. let e : Memory ≡ Disk = sym is ∙ disk in cc e)))
-    (λ is. subst (λ (q : Refusal). Becomes old command (RefusedReply q) new) (sym is) (faulted is)) (otherwise refl refl)
-
-some_wait : (held : ℕ) → (held ≡ 0 → ⊥) → 0 < held
-some_wait zero refuted = absurd (refuted refl)
-some_wait (suc held) refuted = omega arith
-
-pub flushed_by : {D : Type 0} (failed : Bool) (r : Result KeptOf Refusal) (old new : RecorderState D)
-    → (failed ≡ true → (r ≡ Err Failed) × (new ≡ old))
-    → IfErr r (λ refusal. ((refusal ≡ Failed) × (failed ≡ true)) ⊎ (refusal ≡ Disk))
-    → (failed ≡ false → old.held ≡ 0 → (r ≡ Ok (kept_by old)) × (new ≡ old))
-    → IfErr r (λ refusal. refusal ≡ Disk → Fails old new)
-    → IfOk r (λ kept. (kept ≡ kept_by new) × (new ≡ recorder_state new.file old.chain old.tail (old.kept + old.held) 0 old.most))
-    → OnOk r ((old.file.failed ≡ false) × (new.file.failed ≡ false))
-    → FlushedBy failed old (reply_of_flush r) new
-flushed_by true r old new by_failed refusals nothing faulted tells good = let (is, same) = by_failed refl in (ap reply_of_flush is, same)
-flushed_by false (Ok kept) old new by_failed refusals nothing faulted tells good = (tells.0, good.1, λ none. (nothing refl none).1, tells.1)
-flushed_by false (Err refusal) old new by_failed refusals nothing faulted tells good =
-    ⊎_elim (λ (is, bad). absurd (never bad))
-    (λ is. subst (λ (q : Refusal). FlushBecomes old (RefusedReply q) new) (sym is) (some_wait old.held (λ none. let e = (nothing refl none).0 in cc e), faulted is)) refusals
 
 -- ---- bytes
 pub writes_command : {D : Type 0} {H : Type 0} (h : H) (state : D → DiskState) (r : Result Outcome Refusal) (old new : RecorderState D) (command : Command)

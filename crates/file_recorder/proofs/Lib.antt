@@ -11,6 +11,5 @@ mod Small
 pub mod Stepping
 pub mod Walked
 pub mod Bytes
-mod EndState
 mod EndsInTurn
 pub mod Steps

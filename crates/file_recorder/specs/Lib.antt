@@ -4,6 +4,8 @@ pub mod Taking
 pub mod Recorder
 pub mod Answer
 pub mod Running
+pub mod AnswerLaws
 pub mod Small
 pub mod Ending
+pub mod EndingLaws
 pub mod Steps

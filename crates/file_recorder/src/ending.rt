@@ -10,6 +10,7 @@ ghost use Rattle.file_recorder.specs.Running.{Progress, Answers, Replies as Repl
 ghost use Rattle.file_recorder.specs.Taking.{IsWholeChain};
 ghost use Rattle.file_recorder.specs.Ending.{AllEnded, EndRefused, HasEnded, HasToldSome, first_open};
 
+use crate::laws::ends_leave_fewer_open;
 use crate::recorder::Recorder;
 use chain_rules::{Command, Refusal, StreamState};
 use disk_model::Disk;
@@ -34,6 +35,8 @@ pub fn end_open_streams<D: Disk, S: Replies>(
         × HasToldSome (Answers D.Disk) S.waits (progress first w recorder.old) after
         (S.lines replies.old) (S.lines replies.new)) }
 {
+    // For the proof alone.
+    ends_leave_fewer_open::<D>();
     while let Some(serial) = recorder.first_open() {
         let reply = recorder.end_stream(serial);
         match replies.reply(&reply, &mut io::sink()) {
@@ -57,6 +60,8 @@ pub fn end_streams<D: Disk>(recorder: &mut Recorder<D>) -> Result<(), Refusal>
     ensures none { OnOk result (is_open recorder.new.chain ≡ false) }
     ensures left { OnErr result (is_open recorder.new.chain ≡ true) }
 {
+    // For the proof alone.
+    ends_leave_fewer_open::<D>();
     while let Some(serial) = recorder.first_open() {
         if let Reply::Refused(refusal) = recorder.end_stream(serial) {
             return Err(refusal);

@@ -26,7 +26,7 @@ ghost use Rattle.file_recorder.specs.Ending.{first_open, unended};
 ghost use Rattle.feed_runner.specs.Refusing.{refuses};
 ghost use Rattle.file_recorder.specs.Steps.{HasSteps, HasWaiting};
 
-use chain_rules::refusals_are_of_the_table;
+use chain_rules::{ends_end_their_streams, refusals_are_of_the_table};
 use disk_model::Disk;
 use history::{Recordings, stops_keep_what_was_acknowledged};
 
@@ -137,4 +137,6 @@ pub fn ends_leave_fewer_open<D: Disk>()
     ensures { (old new : RecorderState D) (serial : ℕ) (reply : Reply) → IsWholeChain old.chain → first_open old.chain.streams ≡ Some serial
         → Replies old (Record.Command (CommandOf.End serial)) reply new → refuses reply ≡ false
         → unended new.chain.streams < unended old.chain.streams }
-{}
+{
+    ends_end_their_streams();
+}

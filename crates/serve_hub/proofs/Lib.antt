@@ -5,7 +5,6 @@ pub mod Lasting
 pub mod Linked
 pub mod FileRead
 pub mod Reopening
-pub mod Replied
 pub mod Sessions
 pub mod Stepping
 pub mod Told

@@ -68,7 +68,7 @@ refused m command SequenceEnd low high fine is = (fine, is, refl)
 refused m command LinksFull low high fine is = (fine, is, refl)
 refused m command FileFull low high fine is = (fine, is, refl)
 
-not_disk : (refusal : Refusal) → code_of refusal ≤ 19 → refusal ≢ Disk
+pub not_disk : (refusal : Refusal) → code_of refusal ≤ 19 → refusal ≢ Disk
 not_disk refusal few is = absurd (omega (arith, few, ap code_of is))
 
 same_sessions : (m : HubState) → KeepsSessions m m

@@ -4,7 +4,8 @@ use Rattle.feed_replies.specs.declared.reply.Reply.TheVariants.{Refused as Refus
 use Rattle.std.specs.Io.KnownBytes.{Appends}
 use Rattle.feed_replies.specs.Reply.{reply_line}
 use Rattle.file_recorder.specs.Running.{Answers, progress, streams_in}
-use Rattle.file_recorder.proofs.EndsInTurn.{as_found, end_refused, ends_on, fewer, left_open, none_left, none_open, none_told, not_refused, nothing_yet, told_in_part, told_on}
+use Rattle.file_recorder.specs.EndingLaws.{ends_on, none_left, none_open, not_refused, nothing_yet}
+use Rattle.file_recorder.proofs.EndsInTurn.{as_found, end_refused, left_open, none_told, told_in_part, told_on}
 use Rattle.file_recorder.proofs.ending.end_open_streams.Goals as goal
 
 pub loop-serial-init : goal.loop-serial-init
@@ -27,7 +28,7 @@ loop-serial-preserved g c = λ before is.
 pub loop-serial-smaller : goal.loop-serial-smaller
 loop-serial-smaller g c =
     let first = sym c.first_open.ensures.first ∙ c.in-Some.is in
-    fewer c.loop-serial.recorder c.end_stream-reply.new.self c.in-Some.serial c.end_stream-reply.result c.first_open.ensures.whole first c.end_stream-reply.ensures.replies
+    c.ends_leave_fewer_open.ensures c.loop-serial.recorder c.end_stream-reply.new.self c.in-Some.serial c.end_stream-reply.result c.first_open.ensures.whole first c.end_stream-reply.ensures.replies
     (not_refused c.end_stream-reply.result c.in_default-reply.not-Refused)
 
 pub returns-in-Err-clause-err : goal.returns-in-Err-clause-err

@@ -1,6 +1,7 @@
 use Rattle.std.proofs.Common.{[], ◌∷◌, ◌++◌, ◌∙◌, Some, None, refl, sym}
 use Rattle.file_recorder.specs.Running.{Answers, progress, streams_in}
-use Rattle.file_recorder.proofs.EndsInTurn.{as_found, end_refused, ends_on, fewer, left_open, none_left, none_open, not_refused, nothing_yet}
+use Rattle.file_recorder.specs.EndingLaws.{ends_on, none_left, none_open, not_refused, nothing_yet}
+use Rattle.file_recorder.proofs.EndsInTurn.{as_found, end_refused, left_open}
 use Rattle.file_recorder.proofs.ending.end_streams.Goals as goal
 
 pub loop-serial-init : goal.loop-serial-init
@@ -19,7 +20,7 @@ pub loop-serial-smaller : goal.loop-serial-smaller
 loop-serial-smaller g c =
     let old = c.loop-serial.recorder in
     let first = sym c.first_open.ensures.first ∙ c.in-Some.is in
-    fewer old c.end_stream.new.self c.in-Some.serial c.end_stream.result c.first_open.ensures.whole first c.end_stream.ensures.replies
+    c.ends_leave_fewer_open.ensures old c.end_stream.new.self c.in-Some.serial c.end_stream.result c.first_open.ensures.whole first c.end_stream.ensures.replies
     (not_refused c.end_stream.result c.in_default-end_stream.not-Refused)
 
 pub returns-in-Refused-clause-refused : goal.returns-in-Refused-clause-refused

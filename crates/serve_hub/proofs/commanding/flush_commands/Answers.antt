@@ -1,5 +1,5 @@
 use Rattle.serve_hub.proofs.Linked.{linked_flush, recorded_in}
-use Rattle.serve_hub.proofs.Replied.{flushed_by}
+use Rattle.file_recorder.specs.AnswerLaws.{flushed_by}
 use Rattle.serve_hub.proofs.Stepping.{flushes}
 use Rattle.serve_hub.proofs.commanding.flush_commands.Goals as goal
 

@@ -1,7 +1,7 @@
 use Rattle.chain_rules.specs.Decision.{decision}
 use Rattle.serve_hub.proofs.Linked.{linked_command, recorded_in}
-use Rattle.serve_hub.proofs.Replied.{answered_by, not_disk}
-use Rattle.serve_hub.proofs.Stepping.{commands}
+use Rattle.file_recorder.specs.AnswerLaws.{answered_by}
+use Rattle.serve_hub.proofs.Stepping.{commands, not_disk}
 use Rattle.serve_hub.proofs.commanding.record_command.Goals as goal
 
 pub returns-clause-step : goal.returns-clause-step

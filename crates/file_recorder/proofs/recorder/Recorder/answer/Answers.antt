@@ -5,7 +5,8 @@ use Rattle.chain_rules.specs.Decision.{decision}
 use Rattle.file_recorder.specs.Answer.{call_of, command_step}
 use Rattle.file_recorder.proofs.Refused.{not_disk}
 use Rattle.file_recorder.specs.Running.{Replies, progress}
-use Rattle.file_recorder.proofs.Answered.{ComesTo, at_reached, answered_by, one_step, step_is, command_fault, writes_command}
+use Rattle.file_recorder.specs.AnswerLaws.{answered_by}
+use Rattle.file_recorder.proofs.Answered.{ComesTo, at_reached, one_step, step_is, command_fault, writes_command}
 use Rattle.file_recorder.proofs.recorder.Recorder.answer.Goals as goal
 
 pub returns-clause-replies : goal.returns-clause-replies

@@ -2,7 +2,8 @@ use Rattle.std.proofs.Common.{refl, sym, subst}
 use Rattle.feed_records.specs.declared.item.Record.TheVariants.{Flush}
 use Rattle.feed_replies.specs.declared.reply.Reply.{Reply}
 use Rattle.file_recorder.specs.Running.{progress}
-use Rattle.file_recorder.proofs.Answered.{ComesTo, at_reached, flushed_by, flush_answered, flush_fault, writes_flush}
+use Rattle.file_recorder.specs.AnswerLaws.{flushed_by}
+use Rattle.file_recorder.proofs.Answered.{ComesTo, at_reached, flush_answered, flush_fault, writes_flush}
 use Rattle.file_recorder.proofs.running.RecorderRunner.run_flush.Goals as goal
 
 pub returns-clause-answers : goal.returns-clause-answers

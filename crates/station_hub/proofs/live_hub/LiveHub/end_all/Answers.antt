@@ -2,7 +2,8 @@ use Rattle.std.proofs.Common.{[], ◌∷◌, ◌++◌, ◌∙◌, ap, sym}
 use Rattle.file_recorder.specs.Ending.{first_open}
 use Rattle.station_hub.specs.Ending.{HubReplies, streams_of}
 use Rattle.station_hub.specs.LiveLaws.{records_none, records_then}
-use Rattle.station_hub.proofs.Ended.{ends_on, fewer_in, none_left, not_refused, nothing_yet, refused_in}
+use Rattle.file_recorder.specs.EndingLaws.{ends_on, none_left, not_refused, nothing_yet}
+use Rattle.station_hub.proofs.Ended.{fewer_in, refused_in}
 use Rattle.station_hub.proofs.live_hub.LiveHub.end_all.Goals as goal
 
 pub loop-serial-init : goal.loop-serial-init

@@ -1,11 +1,11 @@
--- A command and a flush get the replies of the recorder.
-use Rattle.std.proofs.Common.{◌≡◌, ◌≢◌, ◌⊎◌, ⊎_elim, ℕ, zero, suc, ◌+◌, ◌<◌, ◌≤◌, Bool, true, false, refl, sym, ◌∙◌, ap, subst, arith, Result, Ok, Err}
+-- A command and a flush get the replies of the recorder. Ours.
+use Rattle.std.proofs.Common.{◌≡◌, ◌≢◌, ◌⊎◌, ⊎_elim, ℕ, zero, suc, ◌<◌, ◌+◌, Bool, true, false, refl, sym, ◌∙◌, ap, subst, Result, Ok, Err}
+use Rattle.std.proofs.Math.Nat.{zero-lt-suc}
 use Rattle.std.specs.Prelude.{IsOk, IfOk, IfErr, OnOk}
 use Rattle.feed_replies.specs.declared.reply.Kept.{Kept as KeptOf}
 use Rattle.feed_replies.specs.declared.reply.Reply.TheVariants.{Refused as RefusedReply}
 use Rattle.link_chain.specs.ChainState.{chain_state_of}
 use Rattle.chain_rules.specs.Encoding.{links_after}
-use Rattle.ogg_command.specs.Refusal.{code_of}
 use Rattle.ogg_command.specs.declared.command.Command.{Command}
 use Rattle.ogg_command.specs.declared.refusal.Refusal.{Refusal}
 use Rattle.ogg_command.specs.declared.refusal.Refusal.TheVariants.{Failed, Memory, Disk}
@@ -19,9 +19,6 @@ use Rattle.file_recorder.specs.Running.{AnsweredBy, FlushedBy, FlushBecomes, Bec
 
 never : false ≡ true → ⊥
 never e = cc
-
-pub not_disk : (refusal : Refusal) → code_of refusal ≤ 19 → refusal ≢ Disk
-not_disk refusal few is = absurd (omega (arith, few, ap code_of is))
 
 -- what isn't false is true
 otherwise_begins : (b : Bool) → (b ≡ false → ⊥) → b ≡ true
@@ -59,7 +56,7 @@ answered_by false (Ok size) (Err refusal) old new command by_failed by_rules oth
 
 some_wait : (held : ℕ) → (held ≡ 0 → ⊥) → 0 < held
 some_wait zero refuted = absurd (refuted refl)
-some_wait (suc held) refuted = omega arith
+some_wait (suc held) refuted = zero-lt-suc held
 
 pub flushed_by : {D : Type 0} (failed : Bool) (r : Result KeptOf Refusal) (old new : RecorderState D)
     → (failed ≡ true → (r ≡ Err Failed) × (new ≡ old))
