@@ -6,6 +6,7 @@ use Rattle.feed_replies.specs.declared.reply.Reply.{Reply}
 use Rattle.import_changes.specs.declared.options.Skeletons.{Skeletons}
 use Rattle.file_recorder.specs.Recorder.{RecorderState}
 use Rattle.import_mend.specs.declared.mend.Mend.{Mend}
+use Rattle.import_record.specs.declared.fault.RecordFault.{RecordFault}
 use Rattle.import_record.specs.declared.answering.Answered.{Answered}
 use Rattle.import_record.specs.Running.{nothing}
 use Rattle.import_record.specs.declared.intake.Taken.{Taken}
@@ -19,7 +20,7 @@ use Rattle.slab.specs.Slab.{Slab}
 use Rattle.station_hub.specs.declared.live_hub.LiveHub.{LiveHub}
 use Rattle.station_sources.specs.Air.{GoesOn, HasAllTaken, HasNoPage, IsWaiting, KeepsBytes, foreign_answer, noted, parting_answer}
 use Rattle.station_sources.specs.Counting.{counted, with_mend, with_step, with_taken}
-use Rattle.station_sources.specs.Taking.{TakesEnd, TakesStep}
+use Rattle.station_sources.specs.Taking.{GivesUpFor, TakesEnd, TakesStep}
 use Rattle.station_sources.specs.declared.air.OnAir.{OnAir}
 use Rattle.station_sources.specs.declared.counting.Counts.{Counts}
 use Rattle.station.specs.Beginning.{BeginsBeside}
@@ -114,6 +115,10 @@ module _ {D : Type 0} (model : DiskModel D) where
   TakesFromSource Bytes air now old new = HasPassedOn air now old new
   TakesFromSource (Foreign feeder passed refused) air now old new = HasNoPage feeder passed air
   TakesFromSource done air now old new = ⊤
+
+  -- The source was given up for want of memory, where there was no room, or since a read has failed.
+  abbrev pub HasGivenUp : RecordFault → OnAir → LiveHub D → Type 0
+  HasGivenUp fault air old = (before : Progress D) → IsIn model before old.hub → (last : ImportRun) × GivesUpFor fault air.short air.import last
 
 -- The source has left the air, since its stream isn't Ogg.
 abbrev pub IsTurnedAway : OnAir → Done → Type 0

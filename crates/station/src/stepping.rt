@@ -24,7 +24,7 @@ ghost use Rattle.station_hub.specs.Ending.{EndsOpen};
 ghost use Rattle.station_hub.specs.Live.{RecordsLive};
 ghost use Rattle.station_sources.specs.declared.air.OnAir.{OnAir as OnAirOf};
 ghost use Rattle.station_hub.specs.Patience.{is_due, until_due};
-ghost use Rattle.station.specs.Stepping.{BeginsBy, FreesBy, GoesOnWithLoss, HasFlushed, IsSucceededBy, IsTurnedAway, NothingPends, PartedBy, PartsBy, RestsBy, RestsUnless, TakesFromSource, only_refused, reopens, with_done};
+ghost use Rattle.station.specs.Stepping.{BeginsBy, FreesBy, GoesOnWithLoss, HasFlushed, HasGivenUp, IsSucceededBy, IsTurnedAway, NothingPends, PartedBy, PartsBy, RestsBy, RestsUnless, TakesFromSource, only_refused, reopens, with_done};
 ghost use Rattle.station.specs.Succeeding.{IsSucceeded, SameWait};
 ghost use Rattle.serve_hub.specs.Showing.{Shows};
 ghost use Rattle.serve_machine.specs.Hub.{HubState};
@@ -117,6 +117,9 @@ impl<D: Disk + Drop> Station<D> {
         ensures foreign { (air : OnAirOf) (machine : HubState) → self.old.air ≡ Some air → Shows D.Disk self.old.live.hub machine
             → failed_in self.old.live.hub.file ≡ false → is_due machine.waiting self.old.waiting_since now ≡ false
             → is_foreign air.has_page air.import.input.pages.offset ≡ true → IsTurnedAway air result }
+        // It is given up only for want of memory, where there was no room, or if a read has failed; or with a disk that has.
+        ensures cause { (air : OnAirOf) (fault : RecordFaultOf) (refused : Option RefusalOf) → self.old.air ≡ Some air
+            → failed_in self.old.live.hub.file ≡ false → result ≡ Done.GivenUp fault refused → HasGivenUp D.Disk fault air self.old.live }
         // A fault of the disk comes before anything of the source that follows, and is noted.
         ensures failed { failed_in self.old.live.hub.file ≡ true → reopens result ≡ true }
         ensures noted { (air : OnAirOf) (answered : AnsweredOf) → self.old.air ≡ Some air → result ≡ Done.Reopened answered
@@ -210,6 +213,8 @@ impl<D: Disk + Drop> Station<D> {
         ensures foreign { (air : OnAirOf) (machine : HubState) → self.old.air ≡ Some air → Shows D.Disk self.old.live.hub machine
             → failed_in self.old.live.hub.file ≡ false → is_due machine.waiting self.old.waiting_since now ≡ false
             → is_foreign air.has_page air.import.input.pages.offset ≡ true → IsTurnedAway air result }
+        ensures cause { (air : OnAirOf) (fault : RecordFaultOf) (refused : Option RefusalOf) → self.old.air ≡ Some air
+            → failed_in self.old.live.hub.file ≡ false → result ≡ Done.GivenUp fault refused → HasGivenUp D.Disk fault air self.old.live }
         ensures at_rest { RestsBy result self.new.live.hub.file }
         ensures frees { FreesBy result self.old.air self.new.live.hub.file }
         ensures succeeded { IsSucceededBy result self.old.clients.slots self.new.clients.slots self.new.air }
@@ -265,6 +270,8 @@ impl<D: Disk + Drop> Station<D> {
             → PartsBy result air self.old.clients.slots self.new.clients.slots }
         ensures foreign { (air : OnAirOf) → self.old.air ≡ Some air
             → is_foreign air.has_page air.import.input.pages.offset ≡ true → IsTurnedAway air result }
+        ensures cause { (air : OnAirOf) (fault : RecordFaultOf) (refused : Option RefusalOf) → self.old.air ≡ Some air
+            → result ≡ Done.GivenUp fault refused → HasGivenUp D.Disk fault air self.old.live }
         ensures at_rest { RestsBy result self.new.live.hub.file }
         ensures succeeded { IsSucceededBy result self.old.clients.slots self.new.clients.slots self.new.air }
         ensures begins { BeginsBy result (serials_in self.new.live.hub.file) self.old.options.skeletons (run_in self.new.air) }

@@ -1,10 +1,14 @@
 -- What is taken of the stream of a source, as import_record takes it. Ours.
-use Rattle.std.specs.Prelude.{◌≡◌, ◌⊎◌, ◌<◌, ◌≤◌, ◌&&◌, ℕ, Bool, true, false, not, nat_le, Option, None, is_some, List, [], length, take}
+use Rattle.std.specs.Prelude.{◌≡◌, ◌⊎◌, ◌<◌, ◌≤◌, ◌&&◌, ⊤, ℕ, Bool, true, false, not, nat_le, Option, Some, None, Ok, is_some, List, [], length, take, vec_capacity}
 use Rattle.feed_records.specs.declared.item.Record.{Record}
 use Rattle.feed_replies.specs.declared.reply.Reply.{Reply}
 use Rattle.import_mend.specs.declared.mend.Mend.{Mend}
+use Rattle.import_pages.specs.Reader.{HasReadCause}
 use Rattle.import_record.specs.Pushing.{Comes, InputState, IsStepped, NeedsNone}
+use Rattle.import_record.specs.Reading.{LacksMemoryAtEnd, LacksMemoryFor}
 use Rattle.import_record.specs.Steps.{Ends, state_of}
+use Rattle.import_record.specs.declared.fault.RecordFault.{RecordFault}
+use Rattle.import_record.specs.declared.fault.RecordFault.TheVariants.{Memory, Read, Write}
 use Rattle.import_record.specs.declared.intake.Taken.{Taken}
 use Rattle.import_record.specs.declared.reading.ImportRun.{ImportRun}
 use Rattle.import_record.specs.declared.reading.Step.{Step}
@@ -44,6 +48,25 @@ most_before = 65536
 -- So many bytes of a stream were passed over, and no page was taken before: it isn't Ogg.
 abbrev pub is_foreign : Bool → ℕ → Bool
 is_foreign has_page passed = not has_page && nat_le most_before passed
+
+-- ---- why nothing more is taken of a stream
+-- The end of the stream was found, and there was no memory for the commands that end what is open.
+pub record LacksMemoryOnceEnded (old new : ImportRun) : Type 0 where
+  pub between : ImportRun
+  pub found : between.input.pages.outcome ≡ Some (Ok tt)
+  pub same : state_of between ≡ state_of old
+  pub lacks : LacksMemoryAtEnd between new (vec_capacity between.input.mender.room)
+
+-- A read has failed; or there was no memory for what a page makes, or for what the end makes. What a writer of pages has
+-- done is said where commands are run.
+abbrev pub StopsFor : RecordFault → ImportRun → ImportRun → Type 0
+StopsFor Read old new = HasReadCause old.input.pages new.input.pages
+StopsFor Memory old new = LacksMemoryFor old new (vec_capacity old.input.mender.room) ⊎ LacksMemoryOnceEnded old new
+StopsFor Write old new = ⊤
+
+-- That is so, or there was no memory for bytes of the stream that had come.
+abbrev pub GivesUpFor : RecordFault → Bool → ImportRun → ImportRun → Type 0
+GivesUpFor fault short old new = ((fault ≡ Memory) × (short ≡ true)) ⊎ StopsFor fault old new
 
 module _ {S : Type 0} (answers : S → Record → Reply → List ℕ → S → Type 0) where
   -- A step was taken of what had come to the stream. It needed no more bytes, or no more come. What waits is flushed

@@ -1,7 +1,7 @@
 //! The source that is on the air: its bytes, as they come, and what is recorded of them.
 ghost use Rattle.std.specs.Prelude.{◌≡◌, ◌≢◌, ◌⊎◌, ◌+◌, ◌-◌, ◌≤◌, ◌<◌, ◌++◌, ◌||◌, ℕ, [], Err, IfErr, IfOk, None, Ok, OnErr, OnOk, Option, drop, false, is_some, length, slice_range, true, vec_capacity, vec_len};
 ghost use Rattle.station_sources.specs.Faring.{HasDecoded, look, stopped};
-ghost use Rattle.station_sources.specs.Taking.{HasEndedBy, IsOver, PassesOn, TakesEnd, TakesStep, input_of, is_foreign, is_page, loses};
+ghost use Rattle.station_sources.specs.Taking.{GivesUpFor, HasEndedBy, IsOver, PassesOn, StopsFor, TakesEnd, TakesStep, input_of, is_foreign, is_page, loses};
 ghost use Rattle.import_mend.specs.declared.mend.Mend.{Mend as MendOf};
 ghost use Rattle.import_record.specs.Pushing.{IsStepped};
 ghost use Rattle.import_record.specs.Reading.{IsDue};
@@ -181,6 +181,9 @@ impl OnAir {
             × (page_at self.old.import.input.pages.unread ≡ Err Short) × (self.old.short ≡ false) }
         ensures stops { (before : T.State) → T.is_in before runner.old → IfErr result (λ fault. (after : T.State) × T.is_in after runner.new
             × StopsBy T.answers fault before after None None) }
+        // It fails only if memory was wanted for which there was no room, or if a read has failed.
+        ensures cause { (before : T.State) → T.is_in before runner.old
+            → IfErr result (λ fault. GivesUpFor fault self.old.short self.old.import self.new.import) }
 
         // What is known of the source, and what is known by its end.
         ensures kept { (step : StepOf) → result ≡ Ok (Took.Stepped step)
@@ -277,6 +280,7 @@ impl OnAir {
             ≡ look self.old.body (self.old.at + count) (self.old.decoded - count) self.old.starved self.old.ended self.old.complete)
             × (self.new.pending ≡ self.old.pending))) }
         ensures fault { OnErr result (result ≡ Err RecordFault.Read) }
+        ensures cause { IfErr result (λ fault. StopsFor fault self.old.import self.new.import) }
         ensures stays { (self.new.feeder ≡ self.old.feeder) × (self.new.body ≡ self.old.body) × (self.new.short ≡ self.old.short)
             × (self.new.lost ≡ self.old.lost) × (self.new.has_page ≡ self.old.has_page) × (self.new.foreign ≡ self.old.foreign) }
     {
@@ -302,6 +306,7 @@ impl OnAir {
             × HasEndedBy T.answers offset junk taken self.old.import self.new.import before after }
         ensures stops { (before : T.State) → T.is_in before runner.old → IfErr result (λ fault. (after : T.State) × T.is_in after runner.new
             × StopsBy T.answers fault before after None None) }
+        ensures cause { (before : T.State) → T.is_in before runner.old → IfErr result (λ fault. StopsFor fault self.old.import self.new.import) }
         ensures due { (before : T.State) (step : StepOf) → T.is_in before runner.old → result ≡ Ok (Took.Stepped step)
             → IsDue step (T.held_in before) self.old.import.input.pages self.new.import.input.pages }
         ensures other { (result ≢ Ok Took.Bytes) × (result ≢ Ok Took.Nothing) }

@@ -1,12 +1,14 @@
 use Rattle.std.proofs.Common.{◌≡◌, Option, Result, Ok, is_some, true, refl, sym, ◌∙◌, ap, subst}
 use Rattle.import_record.specs.declared.fault.RecordFault.{RecordFault}
+use Rattle.ogg_command.specs.declared.refusal.Refusal.{Refusal}
 use Rattle.serve_hub.specs.Running.{Answers}
 use Rattle.serve_sources.specs.declared.outcome.Outcome.{Outcome}
 use Rattle.station_sources.specs.Air.{GoesOn, HasAllTaken, KeepsBytes, noted}
-use Rattle.station_sources.specs.Taking.{TakesEnd, TakesStep}
+use Rattle.station_sources.specs.Taking.{GivesUpFor, TakesEnd, TakesStep}
 use Rattle.station_sources.specs.declared.air.OnAir.{OnAir}
 use Rattle.station_sources.specs.declared.air.Took.{Took}
 use Rattle.station.specs.Parting.{HasParted}
+use Rattle.station.specs.declared.stepping.Done.TheVariants.{GivenUp}
 use Rattle.station.proofs.Leaving.{foreign_parts, has_no_page, lost_answer, same_air, same_answer}
 use Rattle.station.proofs.Reopening.{parts_given}
 use Rattle.station_hub.specs.LiveLaws.{is_live_in, records_then}
@@ -82,6 +84,20 @@ returns-in-Err-clause-parts g c air is =
     parts_given c.give_up.result _ refused air c.args.self.now.clients.slots c.give_up.new.self.clients.slots done (λ key client feeder found feeding.
     let (after, left, parted) = c.give_up.ensures.parts new refl key client (stays.0 ∙ ap (λ (one : OnAir). one.feeder) same ∙ feeder) found feeding in
     (after, left, lost_answer new air client after (stays.1 ∙ ap (λ (one : OnAir). one.body) same) (stays.2 ∙ ap (λ (one : OnAir). one.foreign) same) parted))
+
+given_up : (one other : RecordFault) (refused later : Option Refusal) → GivenUp one refused ≡ GivenUp other later → one ≡ other
+given_up one other refused later e = cc e
+
+pub returns-in-Err-clause-cause : goal.returns-in-Err-clause-cause
+returns-in-Err-clause-cause g c air fault refused is gave before is_in =
+    let same : c.in-Some.air ≡ air = same_air c.in-Some.air air (sym c.in-Some.is ∙ is) in
+    let last = c.step.new.self.import in
+    let live = c.args.self.now.live in
+    let (first, done, rests) = c.give_up.ensures.done in (
+      last,
+      subst (λ (one : RecordFault). GivesUpFor one air.short air.import last) (given_up c.in-Err.fault fault first refused (sym done ∙ gave))
+          (subst (λ (one : OnAir). GivesUpFor c.in-Err.fault one.short one.import last) same (c.in-Err.ensures.cause (live_in before live) (is_live_in g.D.Disk before live is_in))),
+    )
 
 pub returns-in-Ok-Nothing-clause-records : goal.returns-in-Ok-Nothing-clause-records
 returns-in-Ok-Nothing-clause-records g c =

@@ -138,3 +138,9 @@ returns-then-not-waited-clause-again g c failed = absurd (c.step_air-done.ensure
 
 pub returns-else-not-waited-clause-again : goal.returns-else-not-waited-clause-again
 returns-else-not-waited-clause-again g c failed = absurd (c.step_air-done.ensures.works failed)
+
+pub returns-then-not-waited-clause-cause : goal.returns-then-not-waited-clause-cause
+returns-then-not-waited-clause-cause g c air fault refused is works gave = c.step_air-done.ensures.cause air fault refused is gave
+
+pub returns-else-not-waited-clause-cause : goal.returns-else-not-waited-clause-cause
+returns-else-not-waited-clause-cause g c air fault refused is works gave = c.step_air-done.ensures.cause air fault refused is gave
