@@ -1,14 +1,14 @@
 -- What becomes of a connection that fetches something. Ours.
 use Rattle.std.specs.Prelude.{◌≡◌, ◌⊎◌, ◌&&◌, ℕ, Bool, true, false, List}
-use Rattle.serve_clients.specs.Client.{ClientState, cut_for_memory, told, with_line, with_stage}
+use Rattle.serve_clients.specs.Client.{ClientState, LacksRoom, cut_for_memory, told, with_line, with_stage}
 use Rattle.serve_clients.specs.Line.{read_failed_by}
 use Rattle.serve_clients.specs.declared.client.Stage.{Stage}
 use Rattle.serve_clients.specs.declared.client.Stage.TheVariants.{Closing, Cut, Hearing}
 use Rattle.serve_clients.specs.declared.line.Trouble.TheVariants.{Blocked}
 
--- bytes follow what it has still to get; or memory for them was refused
+-- bytes follow what it has still to get; or there was no room for them, and it is cut
 pub record IsSupplied (bytes : List ℕ) (old new : ClientState) : Type 0 where
-  pub becomes : (new ≡ told bytes old) ⊎ (new ≡ cut_for_memory old)
+  pub becomes : (new ≡ told new.room bytes old) ⊎ (LacksRoom bytes old × (new ≡ cut_for_memory old))
 
 -- its peer sends no more: an answer that has an end goes on, one that has none is cut, and one that has been sent
 abbrev pub stage_alone : Stage → Stage

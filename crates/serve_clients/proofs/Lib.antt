@@ -1,3 +1,2 @@
 mod Counting
 mod Rounds
-pub mod Telling

@@ -1,5 +1,5 @@
 -- A connection, as contracts see it. Ours.
-use Rattle.std.specs.Prelude.{◌≡◌, ◌≢◌, ◌⊎◌, ◌&&◌, ℕ, zero, suc, Bool, true, false, if◌then◌else◌, Option, None, List, [], ◌++◌, drop}
+use Rattle.std.specs.Prelude.{◌≡◌, ◌≢◌, ◌⊎◌, ◌&&◌, ◌<◌, ◌+◌, ℕ, zero, suc, Bool, true, false, if◌then◌else◌, Option, None, List, [], ◌++◌, drop, length}
 use Rattle.serve_live.specs.Listening.{ListenerState}
 use Rattle.serve_clients.specs.Line.{moved_on, new_line}
 use Rattle.serve_clients.specs.declared.client.Stage.{Stage}
@@ -25,16 +25,30 @@ pub record ClientState : Type 0 where
   pub line : Line
   -- memory for what is kept of it was refused, since there was no room
   pub refused : Bool
+  -- for how many bytes there is memory: of its head, and of what was given and isn't written
+  pub head_room : ℕ
+  pub room : ℕ
 
 abbrev pub fresh : ℕ → ClientState
-fresh now = record { stage = Asking; session = None; head = []; unsent = []; listener = None; since = now; idle = true; line = new_line; refused = false }
+fresh now = record { stage = Asking; session = None; head = []; unsent = []; listener = None; since = now; idle = true; line = new_line; refused = false; head_room = 0; room = 0 }
 
 abbrev pub with_stage : Stage → ClientState → ClientState
 with_stage stage client = record client { stage = stage }
 
--- the text follows what is to be written
-abbrev pub told : List ℕ → ClientState → ClientState
-told text client = record client { unsent = client.unsent ++ text }
+-- the text follows what is to be written, for which there is this room then
+abbrev pub told : ℕ → List ℕ → ClientState → ClientState
+told room text client = record client { unsent = client.unsent ++ text; room = room }
+
+-- the bytes follow what has come of its head, for which there is this room then
+abbrev pub with_more : ℕ → List ℕ → ClientState → ClientState
+with_more room bytes client = record client { head = client.head ++ bytes; head_room = room }
+
+-- there is no room for these bytes behind what has come of its head, or behind what is to be written
+abbrev pub LacksHeadRoom : List ℕ → ClientState → Type 0
+LacksHeadRoom bytes client = client.head_room < length client.head + length bytes
+
+abbrev pub LacksRoom : List ℕ → ClientState → Type 0
+LacksRoom text client = client.room < length client.unsent + length text
 
 -- a client that is cut keeps what it had
 abbrev pub cut : ClientState → ClientState
@@ -46,6 +60,11 @@ memory_refused client = record client { refused = true }
 
 abbrev pub cut_for_memory : ClientState → ClientState
 cut_for_memory client = cut (memory_refused client)
+
+-- This text is the last that is written. If there was no room for it, the connection may be cut.
+abbrev pub HasLast : List ℕ → ClientState → ClientState → Type 0
+HasLast text old new =
+    (new ≡ with_stage Ending (told new.room text old)) ⊎ (LacksRoom text old × (new ≡ record (cut_for_memory old) { room = new.room }))
 
 -- A client that is cut is closed. One that has got its last byte is told so, and what it still sends is passed over until it
 -- closes: a reset could cut off what was written (RFC 9112, section 9.6).
@@ -76,12 +95,13 @@ abbrev pub given : ℕ → Bool → ℕ → ClientState → ClientState
 given zero ending now client = ended_if (is_hearing client.stage && ending) (record client { idle = true })
 given (suc count) ending now client = if client.idle then record client { idle = false; since = now } else client
 
--- So many of these bytes were written, and the others are kept: of those that were kept before, or of these. If memory for
--- these is refused, it is cut.
+-- So many of these bytes were written, and the others are kept: of those that were kept before, or of these. If there was
+-- no room for these, it may be cut.
 abbrev pub HasWritten : List ℕ → ℕ → ClientState → ClientState → Type 0
 HasWritten bytes count old new =
     ((old.unsent ≢ []) × (new ≡ record old { unsent = drop count old.unsent }))
-    ⊎ ((old.unsent ≡ []) × ((new ≡ record old { unsent = drop count bytes }) ⊎ (new ≡ cut_for_memory old)))
+    ⊎ ((old.unsent ≡ [])
+    × ((new ≡ record old { unsent = drop count bytes; room = new.room }) ⊎ (LacksRoom (drop count bytes) old × (new ≡ cut_for_memory old))))
 
 -- a byte that was written shows that the peer takes bytes
 abbrev pub moved_if : ℕ → ℕ → ClientState → ClientState

@@ -1,10 +1,9 @@
 //! A connection, and how far it has come.
-ghost use Rattle.std.specs.Prelude.{◌≡◌, ◌≢◌, ◌⊎◌, ◌++◌, [], Some, drop, IsOk, OnOk, OnErr};
+ghost use Rattle.std.specs.Prelude.{◌≡◌, ◌≢◌, ◌⊎◌, ◌≤◌, ◌++◌, [], Some, drop, IsOk, OnOk, OnErr, vec_capacity, vec_len};
 ghost use Rattle.serve_clients.specs.Clients.{goes_again, rested, unwritten_by};
-ghost use Rattle.serve_clients.specs.Client.{ClientState, HasWritten, after_of, cut_for_memory, fresh, given, memory_refused, moved_if, told, with_line, with_stage};
+ghost use Rattle.serve_clients.specs.Client.{ClientState, HasLast, HasWritten, LacksHeadRoom, LacksRoom, after_of, cut_for_memory, fresh, given, memory_refused, moved_if, told, with_line, with_more, with_stage};
 ghost use Rattle.serve_texts.specs.Player.{player_response};
 ghost use Rattle.serve_texts.specs.Status.{status_response};
-ghost use Rattle.serve_clients.specs.declared.client.Stage.TheVariants.{Ending as EndingOf};
 
 use crate::Memory;
 use crate::grower::Grower;
@@ -74,7 +73,7 @@ pub struct Client {
 }
 
 impl Model for Client {
-    ghost use Rattle.std.specs.Prelude.{◌≤◌, drop, length};
+    ghost use Rattle.std.specs.Prelude.{◌≤◌, drop, length, vec_capacity};
     ghost use Rattle.serve_clients.specs.Client.{ClientState};
 
     ghost Value = { ClientState };
@@ -89,9 +88,23 @@ impl Model for Client {
       idle = c.idle;
       line = c.line;
       refused = c.grower;
+      head_room = vec_capacity c.head;
+      room = vec_capacity c.rest;
     } };
 
     ghost invariant = { λ c. c.sent ≤ length c.rest.items };
+}
+
+/// What was written of these bytes is no longer kept. Their memory stays.
+fn forget_sent(rest: &mut Vec<u8>, sent: &mut usize)
+    requires { sent.old ≤ vec_len rest.old }
+    ensures rest { rest.new.items ≡ drop sent.old rest.old.items }
+    ensures sent { sent.new ≡ 0 }
+    ensures room { vec_capacity rest.new ≡ vec_capacity rest.old }
+{
+    rest.rotate_left(*sent);
+    rest.truncate(rest.len() - *sent);
+    *sent = 0;
 }
 
 impl Client {
@@ -114,31 +127,34 @@ impl Client {
         }
     }
 
-    /// Further bytes of its head have come. After `Memory`, which is noted, none of them are kept.
+    /// Further bytes of its head have come. After `Memory`, which is noted, none of them are kept, and there was no room
+    /// for them.
     pub fn hear(&mut self, bytes: &[u8]) -> Result<(), Memory>
-        ensures ok { OnOk result (self.new ≡ record self.old { head = self.old.head ++ bytes.now }) }
+        ensures ok { OnOk result (self.new ≡ with_more self.new.head_room bytes.now self.old) }
         ensures err { OnErr result (self.new ≡ memory_refused self.old) }
+        ensures full { OnErr result (LacksHeadRoom bytes.now self.old) }
+        ensures room { self.old.head_room ≤ self.new.head_room }
         ensures none { bytes.now ≡ [] → IsOk result }
     {
         self.grower.append(&mut self.head, bytes)
     }
 
-    /// This text is the next that is written. After `Memory`, which is noted, nothing of it is.
+    /// This text is the next that is written. After `Memory`, which is noted, nothing of it is, and there was no room for
+    /// it.
     pub fn tell(&mut self, text: &[u8]) -> Result<(), Memory>
-        ensures ok { OnOk result (self.new ≡ told text.now self.old) }
+        ensures ok { OnOk result (self.new ≡ told self.new.room text.now self.old) }
         ensures err { OnErr result (self.new ≡ memory_refused self.old) }
+        ensures full { OnErr result (LacksRoom text.now self.old) }
+        ensures room { self.old.room ≤ self.new.room }
         ensures none { text.now ≡ [] → IsOk result }
     {
-        if self.unsent().is_empty() {
-            self.rest.clear();
-            self.sent = 0;
-        }
+        forget_sent(&mut self.rest, &mut self.sent);
         self.grower.append(&mut self.rest, text)
     }
 
     /// This text is the last that is written. If memory for it is refused, the connection is cut.
     pub fn tell_last(&mut self, text: &[u8])
-        ensures { (self.new ≡ with_stage EndingOf (told text.now self.old)) ⊎ (self.new ≡ cut_for_memory self.old) }
+        ensures { HasLast text.now self.old self.new }
     {
         match self.tell(text) {
             Ok(()) => self.stage = Stage::Ending,
@@ -148,8 +164,9 @@ impl Client {
 
     /// The player is the last that is written. If memory for it is refused, the connection is cut.
     pub fn tell_player(&mut self, head: bool)
-        ensures { (self.new ≡ with_stage EndingOf (told (player_response head) self.old)) ⊎ (self.new ≡ cut_for_memory self.old) }
+        ensures { HasLast (player_response head) self.old self.new }
     {
+        forget_sent(&mut self.rest, &mut self.sent);
         match append_player(&mut self.rest, head) {
             Ok(()) => self.stage = Stage::Ending,
             Err(_) => self.lack_memory(),
@@ -158,8 +175,9 @@ impl Client {
 
     /// These numbers are the last that is written. If memory for them is refused, the connection is cut.
     pub fn tell_status(&mut self, numbers: &Numbers, head: bool)
-        ensures { (self.new ≡ with_stage EndingOf (told (status_response numbers.now head) self.old)) ⊎ (self.new ≡ cut_for_memory self.old) }
+        ensures { HasLast (status_response numbers.now head) self.old self.new }
     {
+        forget_sent(&mut self.rest, &mut self.sent);
         match append_status(&mut self.rest, numbers, head) {
             Ok(()) => self.stage = Stage::Ending,
             Err(_) => self.lack_memory(),
@@ -198,12 +216,13 @@ impl Client {
     }
 
     /// The first `count` of the bytes that were given were written: those that couldn't be written before, or these if
-    /// there were none. What is left is kept; if memory for it is refused, the connection is cut. If nothing is left, none
-    /// is taken.
+    /// there were none. What is left is kept; if there is no room for it and memory is refused, the connection is cut.
     pub fn wrote(&mut self, bytes: &[u8], count: usize)
         ensures again { self.old.unsent ≢ [] → self.new ≡ record self.old { unsent = drop count self.old.unsent } }
-        ensures anew { self.old.unsent ≡ [] → (self.new ≡ record self.old { unsent = drop count bytes.now }) ⊎ (self.new ≡ cut_for_memory self.old) }
-        ensures whole { self.old.unsent ≡ [] → drop count bytes.now ≡ [] → self.new ≡ self.old }
+        ensures anew { self.old.unsent ≡ [] → (self.new ≡ record self.old { unsent = drop count bytes.now; room = self.new.room })
+            ⊎ (LacksRoom (drop count bytes.now) self.old × (self.new ≡ cut_for_memory self.old)) }
+        ensures whole { self.old.unsent ≡ [] → drop count bytes.now ≡ [] → self.new.stage ≡ self.old.stage }
+        ensures room { self.old.room ≤ self.new.room }
         ensures written { HasWritten bytes.now count self.old self.new }
     {
         if !self.unsent().is_empty() {

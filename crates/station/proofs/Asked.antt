@@ -2,7 +2,7 @@
 use Rattle.std.proofs.Common.{◌≡◌, ◌≢◌, ◌⊎◌, ℕ, Bool, true, false, is_some, Option, Some, None, List, [], ◌++◌, refl, sym, ◌∙◌, ap, subst, inr, inl}
 use Rattle.disk_model.specs.declared.disk.Disk.{Ghosts as DiskModel}
 use Rattle.import_changes.specs.declared.options.Skeletons.{Skeletons}
-use Rattle.serve_clients.specs.Client.{ClientState, cut_for_memory, with_stage}
+use Rattle.serve_clients.specs.Client.{ClientState, LacksHeadRoom, cut_for_memory, with_more, with_stage}
 use Rattle.serve_clients.specs.declared.client.Stage.TheVariants.{Feeding, Offering}
 use Rattle.serve_hub.specs.Listening.{KeepsMachine}
 use Rattle.serve_hub.specs.Parts.{HubParts}
@@ -13,7 +13,7 @@ use Rattle.serve_sources.specs.declared.asking.Asks.TheVariants as Asks
 use Rattle.serve_sources.specs.declared.own.OwnResource.{OwnResource}
 use Rattle.serve_sources.specs.declared.password.Password.{Password}
 use Rattle.slab.specs.Slab.{Slab, get, with_value}
-use Rattle.station_hub.specs.Asking.{HasAsked, HasNoSession, IsConnected, with_head}
+use Rattle.station_hub.specs.Asking.{HasAsked, HasNoSession, IsConnected}
 use Rattle.station_hub.specs.Places.{PlacesState}
 use Rattle.station_sources.specs.declared.air.Feeder.{Feeder}
 use Rattle.station_sources.specs.declared.air.OnAir.{OnAir}
@@ -56,11 +56,11 @@ feeds_on slots new key client other is becomes stage session =
 
 -- ---- a source that is known by its head
 more_is_cut : (bytes : List ℕ) (one after : ClientState) → asks_as_source (one.head ++ bytes) ≡ true
-    → (asks_as_source (one.head ++ bytes) ≡ true → (Asks.More ≡ Asks.Source) ⊎ ((Asks.More ≡ Asks.More) × (after ≡ cut_for_memory one)))
-    → after ≡ cut_for_memory one
+    → (asks_as_source (one.head ++ bytes) ≡ true → (Asks.More ≡ Asks.Source) ⊎ ((Asks.More ≡ Asks.More) × LacksHeadRoom bytes one × (after ≡ cut_for_memory one)))
+    → LacksHeadRoom bytes one × (after ≡ cut_for_memory one)
 more_is_cut bytes one after source known = elim (known source) [
   | inl other ↦ absurd (cc_more other)
-  | inr (same, is) ↦ is
+  | inr (same, lacks, is) ↦ (lacks, is)
 ]
   where
     cc_more : Asks.More ≡ Asks.Source → ⊥
@@ -68,20 +68,20 @@ more_is_cut bytes one after source known = elim (known source) [
 
 -- More of it doesn't have to come, but if memory was refused.
 pub more_of_source : (bytes : List ℕ) (client one after : ClientState) → one ≡ moved client → asks_as_source (client.head ++ bytes) ≡ true
-    → (asks_as_source (one.head ++ bytes) ≡ true → (Asks.More ≡ Asks.Source) ⊎ ((Asks.More ≡ Asks.More) × (after ≡ cut_for_memory one)))
-    → after ≡ cut_for_memory (moved client)
+    → (asks_as_source (one.head ++ bytes) ≡ true → (Asks.More ≡ Asks.Source) ⊎ ((Asks.More ≡ Asks.More) × LacksHeadRoom bytes one × (after ≡ cut_for_memory one)))
+    → LacksHeadRoom bytes client × (after ≡ cut_for_memory (moved client))
 more_of_source bytes client one after is source known =
     more_is_cut bytes (moved client) after source
-    (subst (λ (it : ClientState). asks_as_source (it.head ++ bytes) ≡ true → (Asks.More ≡ Asks.Source) ⊎ ((Asks.More ≡ Asks.More) × (after ≡ cut_for_memory it))) is known)
+    (subst (λ (it : ClientState). asks_as_source (it.head ++ bytes) ≡ true → (Asks.More ≡ Asks.Source) ⊎ ((Asks.More ≡ Asks.More) × LacksHeadRoom bytes it × (after ≡ cut_for_memory it))) is known)
 
 -- it asks for nothing else
 pub no_other : (asks : AsksOf) (bytes : List ℕ) (client one after : ClientState) → one ≡ moved client → asks_as_source (client.head ++ bytes) ≡ true
     → asks ≢ Asks.Source → asks ≢ Asks.More
-    → (asks_as_source (one.head ++ bytes) ≡ true → (asks ≡ Asks.Source) ⊎ ((asks ≡ Asks.More) × (after ≡ cut_for_memory one))) → ⊥
+    → (asks_as_source (one.head ++ bytes) ≡ true → (asks ≡ Asks.Source) ⊎ ((asks ≡ Asks.More) × LacksHeadRoom bytes one × (after ≡ cut_for_memory one))) → ⊥
 no_other asks bytes client one after is source not_source not_more known =
     elim (known (ap (λ (it : ClientState). asks_as_source (it.head ++ bytes)) is ∙ source)) [
       | inl same ↦ not_source same
-      | inr (more, cut) ↦ not_more more
+      | inr (more, lacks, cut) ↦ not_more more
     ]
 
 -- its head says what becomes of it
@@ -96,7 +96,10 @@ sourced key now bytes password skeletons serials old new slots client one asked 
     let (after, left, offered) = leads other (placed slots key client other is) in (
       after,
       left,
-      inr (subst (λ (it : ClientState). IsOffered key [] now password skeletons serials old new it after) (same ∙ ap (with_stage Offering) becomes) offered),
+      inr (
+        asked.head_room,
+        subst (λ (it : ClientState). IsOffered key [] now password skeletons serials old new it after) (same ∙ ap (with_stage Offering) becomes) offered,
+      ),
     )
 
 pub own_not_source : (resource : OwnResource) (head : Bool) → Asks.Own resource head ≢ Asks.Source
@@ -131,17 +134,29 @@ module _ {D : Type 0} (model : DiskModel D) where
       (client one asked : ClientState) (found : Option ClientState) → one ≡ moved client → HasAsked (Asks.Own resource head) bytes one asked
       → KeepsMachine model old new
       → (after : ClientState) × (found ≡ Some after) × IsAnswered resource head asked after × Joins model resource head places old after
-      × HasCause model resource places old new after
+      × HasCause model resource places old new asked after
       → (after : ClientState) × (found ≡ Some after) × GetsOwn model places bytes old new client after
   gets_own places bytes old new resource head client one asked found was asks keeps (after, left, answered, joins, cause) =
-      let (own, becomes) = subst (λ (it : ClientState). HasAsked (Asks.Own resource head) bytes it asked) was asks in
-      (after, left, (resource, head, own, keeps, subst (λ (it : ClientState). IsAnswered resource head it after) becomes answered, joins, cause))
+      let (own, becomes) = subst (λ (it : ClientState). HasAsked (Asks.Own resource head) bytes it asked) was asks in (
+        after,
+        left,
+        (
+          resource,
+          head,
+          asked.head_room,
+          own,
+          keeps,
+          subst (λ (it : ClientState). IsAnswered resource head it after) becomes answered,
+          joins,
+          subst (λ (it : ClientState). HasCause model resource places old new it after) becomes cause,
+        ),
+      )
 
   connected : (password : Option Password) (bytes : List ℕ) (old new : HubParts D) (client asked after : ClientState)
-      → IsOther (client.head ++ bytes) ⊎ ((asks_as_source (client.head ++ bytes) ≡ true) × (password ≡ None)) → asked ≡ with_head bytes (moved client)
+      → IsOther (client.head ++ bytes) ⊎ ((asks_as_source (client.head ++ bytes) ≡ true) × (password ≡ None)) → asked ≡ with_more asked.head_room bytes (moved client)
       → IsConnected (Shows model) old new asked after ⊎ HasNoSession old new asked after → Connects model password bytes old new client after
   connected password bytes old new client asked after cause becomes connects =
-      (cause, subst (λ (it : ClientState). IsConnected (Shows model) old new it after ⊎ HasNoSession old new it after) becomes connects)
+      (cause, (asked.head_room, subst (λ (it : ClientState). IsConnected (Shows model) old new it after ⊎ HasNoSession old new it after) becomes connects))
 
   pub connects_other : (password : Option Password) (bytes : List ℕ) (old new : HubParts D) (client one asked after : ClientState) → one ≡ moved client
       → HasAsked Asks.File bytes one asked → IsConnected (Shows model) old new asked after ⊎ HasNoSession old new asked after

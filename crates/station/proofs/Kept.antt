@@ -4,7 +4,8 @@ use Rattle.std.proofs.lemmas.Bool.{cases_Bool}
 use Rattle.std.proofs.lemmas.Bool.Decides.{eqb_tells}
 use Rattle.std.proofs.lemmas.List.{get_or-set_other}
 use Rattle.import_changes.specs.declared.options.Skeletons.{Skeletons}
-use Rattle.serve_clients.specs.Client.{ClientState, is_hearing, with_line}
+use Rattle.serve_clients.specs.Client.{ClientState, cut_for_memory, is_hearing, told, with_line, with_more, with_stage}
+use Rattle.serve_sources.specs.Answers.{answer_after}
 use Rattle.serve_clients.specs.Clients.{AreWoken, HasTurn, MayHaveTurn, OthersStay, told_by, with_turn}
 use Rattle.serve_clients.specs.declared.clients.Clients.{Clients}
 use Rattle.serve_clients.specs.declared.client.Stage.{Stage}
@@ -17,7 +18,7 @@ use Rattle.station_sources.specs.declared.air.OnAir.{OnAir}
 use Rattle.station.specs.Found.{placed}
 use Rattle.station.specs.Kept.{AreKept, AreLeft, AreTried, AreTurned, InPlace, IsKept, IsLeft, IsTried, MayTurn, OfEach, WasTried}
 use Rattle.station.specs.KeptLaws.{left_self, turned_self}
-use Rattle.station.specs.Offering.{IsOffered, with_more}
+use Rattle.station.specs.Offering.{IsOffered}
 use Rattle.station.specs.Parting.{FeederParted, FeederParts, HasParted}
 use Rattle.station.specs.Passing.{ArePassed, GoesOnAsSource, IsPassed, has_offered, is_source}
 use Rattle.station.specs.Stepping.{PartedBy, PartsBy}
@@ -33,13 +34,20 @@ use Rattle.station.proofs.Passed.{line_like, parted, waiting}
 turns_last : (answer : Option Outcome) (line later : Line) (old mid new : ClientState) → HasParted answer (with_line line old) mid → new ≡ with_line later mid
     → HasParted answer (with_line later old) new
 turns_last None line later old mid new is turned = turned ∙ ap (with_line later) is
-turns_last (Some outcome) line later old mid new (inl is) turned = inl (turned ∙ ap (with_line later) is)
-turns_last (Some outcome) line later old mid new (inr is) turned = inr (turned ∙ ap (with_line later) is)
+turns_last (Some outcome) line later old mid new (inl is) turned =
+    inl (turned ∙ ap (with_line later) is
+    ∙ ap (λ room. with_stage Ending (told room (answer_after outcome) (with_line later old))) (sym (ap (λ (one : ClientState). one.room) turned)))
+turns_last (Some outcome) line later old mid new (inr (lacks, is)) turned =
+    inr (
+      lacks,
+      turned ∙ ap (with_line later) is
+          ∙ ap (λ room. record (cut_for_memory (with_line later old)) { room = room }) (sym (ap (λ (one : ClientState). one.room) turned)),
+    )
 
 last_stage : (answer : Option Outcome) (old new : ClientState) → HasParted answer old new → (new.stage ≡ Ending) ⊎ (new.stage ≡ Cut)
 last_stage None old new is = inl (ap (λ (one : ClientState). one.stage) is)
 last_stage (Some outcome) old new (inl is) = inl (ap (λ (one : ClientState). one.stage) is)
-last_stage (Some outcome) old new (inr is) = inr (ap (λ (one : ClientState). one.stage) is)
+last_stage (Some outcome) old new (inr (lacks, is)) = inr (ap (λ (one : ClientState). one.stage) is)
 
 not_waiting : (stage : Stage) → (stage ≡ Ending) ⊎ (stage ≡ Cut) → is_waiting stage ≡ true → ⊥
 not_waiting stage (inl is) waited = let e : is_waiting Ending ≡ true = sym (ap is_waiting is) ∙ waited in cc
@@ -71,12 +79,12 @@ feeding_source stage is = ap is_source is
 
 tried_on : (password : Option Password) (now key : ℕ) (skeletons : Skeletons) (serials : List ℕ) (begun : Option OnAir) (old mid : ClientState)
     → is_source old.stage ≡ true → IsOffered key [] now password skeletons serials None begun old mid → GoesOnAsSource old mid
-tried_on password now key skeletons serials begun old mid source (inl (none, is)) =
+tried_on password now key skeletons serials begun old mid source (inl (none, lacks, is)) =
     (ap (λ (one : ClientState). has_offered one.stage) is, ap (λ (one : ClientState). one.session) is)
 tried_on password now key skeletons serials begun old mid source (inr (inl (none, unset, is))) =
     (ap (λ (one : ClientState). has_offered one.stage) is, ap (λ (one : ClientState). one.session) is)
-tried_on password now key skeletons serials begun old mid source (inr (inr (secret, offer, is, comes, leads))) =
-    leads_on key now skeletons serials offer None begun (with_more [] old) mid leads source
+tried_on password now key skeletons serials begun old mid source (inr (inr (secret, offer, room, is, comes, leads))) =
+    leads_on key now skeletons serials offer None begun (with_more room [] old) mid leads source
 
 passes : (password : Option Password) (now key : ℕ) (old new : Option ClientState) → InPlace (IsKept password now key) old new → IsPassed old new
 passes password now key None new is = is

@@ -2,7 +2,7 @@
 use Rattle.std.proofs.Common.{◌≡◌, ◌≢◌, ◌⊎◌, ℕ, false, true, Option, Some, None, List, length, drop, refl, sym, ◌∙◌, ap, subst, inl, inr}
 use Rattle.std.proofs.lemmas.Bool.Decides.{eqb_tells}
 use Rattle.std.proofs.lemmas.List.{get_or-set_other}
-use Rattle.serve_clients.specs.Client.{ClientState}
+use Rattle.serve_clients.specs.Client.{ClientState, HasLast}
 use Rattle.slab.specs.Slab.{Slab, get, with_value}
 use Rattle.import_changes.specs.declared.options.Skeletons.{Skeletons}
 use Rattle.import_record.specs.declared.reading.ImportRun.{ImportRun}
@@ -16,7 +16,6 @@ use Rattle.station_sources.specs.Air.{HoldsMore, IsShort, feeder_in}
 use Rattle.station_sources.specs.Beginning.{IsNew}
 use Rattle.station_sources.specs.declared.air.Feeder.TheVariants.{Peer}
 use Rattle.station_sources.specs.declared.air.OnAir.{OnAir}
-use Rattle.station.specs.Asked.{HasLast}
 use Rattle.station.specs.Beginning.{BeginsBeside, options_for, run_in}
 use Rattle.station.specs.Found.{placed}
 use Rattle.station.specs.Offering.{Feeds, GetsAir, IsRefusal, Leads}
@@ -64,16 +63,16 @@ some_none air e = cc
 
 pub last_on : (text : List ℕ) (old new : ClientState) → HasLast text old new → GoesOnAsSource old new
 last_on text old new (inl is) = (ap (λ (one : ClientState). has_offered one.stage) is, ap (λ (one : ClientState). one.session) is)
-last_on text old new (inr is) = (ap (λ (one : ClientState). has_offered one.stage) is, ap (λ (one : ClientState). one.session) is)
+last_on text old new (inr (lacks, is)) = (ap (λ (one : ClientState). has_offered one.stage) is, ap (λ (one : ClientState). one.session) is)
 
 last_waits : (text : List ℕ) (old new : ClientState) → HasLast text old new → is_waiting new.stage ≡ false
 last_waits text old new (inl is) = ap (λ (one : ClientState). is_waiting one.stage) is
-last_waits text old new (inr is) = ap (λ (one : ClientState). is_waiting one.stage) is
+last_waits text old new (inr (lacks, is)) = ap (λ (one : ClientState). is_waiting one.stage) is
 
 feeds_on : (answer : List ℕ) (now : ℕ) (old new : ClientState) → Feeds answer now old new → GoesOnAsSource old new × (is_waiting new.stage ≡ false)
 feeds_on answer now old new (inl is) =
     ((ap (λ (one : ClientState). has_offered one.stage) is, ap (λ (one : ClientState). one.session) is), ap (λ (one : ClientState). is_waiting one.stage) is)
-feeds_on answer now old new (inr is) =
+feeds_on answer now old new (inr (lacks, is)) =
     ((ap (λ (one : ClientState). has_offered one.stage) is, ap (λ (one : ClientState). one.session) is), ap (λ (one : ClientState). is_waiting one.stage) is)
 
 gets_on : (key used : ℕ) (body : Body) (answer : List ℕ) (now : ℕ) (skeletons : Skeletons) (serials : List ℕ) (new : Option OnAir) (client after : ClientState)

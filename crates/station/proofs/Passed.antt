@@ -39,7 +39,7 @@ offered_to old new key one other is becomes offers =
 pub parted : (answer : Option Outcome) (old new : ClientState) → HasParted answer old new → GoesOnAsSource old new
 parted None old new is = (ap (λ (one : ClientState). has_offered one.stage) is, ap (λ (one : ClientState). one.session) is)
 parted (Some outcome) old new (inl is) = (ap (λ (one : ClientState). has_offered one.stage) is, ap (λ (one : ClientState). one.session) is)
-parted (Some outcome) old new (inr is) = (ap (λ (one : ClientState). has_offered one.stage) is, ap (λ (one : ClientState). one.session) is)
+parted (Some outcome) old new (inr (lacks, is)) = (ap (λ (one : ClientState). has_offered one.stage) is, ap (λ (one : ClientState). one.session) is)
 
 pub waiting : (stage : Stage) → is_waiting stage ≡ true → is_source stage ≡ true
 waiting Waiting e = refl

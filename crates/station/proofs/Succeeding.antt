@@ -123,7 +123,7 @@ one_has old now air key some (inr (next, has)) = record { next = Some next; has_
 pub parted_waits : (answer : Option Outcome) (client after : ClientState) → HasParted answer client after → is_waiting after.stage ≡ false
 parted_waits None client after parted = ap (λ (one : ClientState). is_waiting one.stage) parted
 parted_waits (Some outcome) client after (inl told) = ap (λ (one : ClientState). is_waiting one.stage) told
-parted_waits (Some outcome) client after (inr cut) = ap (λ (one : ClientState). is_waiting one.stage) cut
+parted_waits (Some outcome) client after (inr (lacks, cut)) = ap (λ (one : ClientState). is_waiting one.stage) cut
 
 -- ---- the same ones waited before that
 succeeds : (old mid new : Slab ClientState) (next : Option ℕ) (air : Option OnAir) → SameWait old mid → HasAir next mid new air → HasAir next old new air

@@ -1,9 +1,9 @@
 -- What becomes of a connection by what it asks for. Ours.
 use Rattle.std.specs.Prelude.{◌≡◌, ◌≢◌, ◌⊎◌, ⊤, ℕ, Bool, true, false, Option, Some, None, Result, List, ◌++◌}
 use Rattle.disk_model.specs.declared.disk.Disk.{Ghosts as DiskModel}
-use Rattle.serve_clients.specs.Client.{ClientState, cut_for_memory, told, with_line, with_stage}
+use Rattle.serve_clients.specs.Client.{ClientState, HasLast, LacksHeadRoom, cut_for_memory, with_line, with_more}
 use Rattle.serve_clients.specs.Line.{moved_on}
-use Rattle.serve_clients.specs.declared.client.Stage.TheVariants.{Ending, Hearing}
+use Rattle.serve_clients.specs.declared.client.Stage.TheVariants.{Hearing}
 use Rattle.serve_hub.specs.Listening.{KeepsMachine}
 use Rattle.serve_hub.specs.Parts.{HubParts}
 use Rattle.serve_hub.specs.Showing.{Shows}
@@ -29,14 +29,11 @@ use Rattle.station.specs.Passing.{GoesOnAsSource}
 abbrev pub moved : ClientState → ClientState
 moved client = with_line (moved_on client.line) client
 
-abbrev pub heard : List ℕ → ClientState → ClientState
-heard bytes client = record (moved client) { head = client.head ++ bytes }
+-- there is this room for its head then
+abbrev pub heard : ℕ → List ℕ → ClientState → ClientState
+heard room bytes client = with_more room bytes (moved client)
 
 -- ---- what the station answers itself
--- the text is the last that it gets; if memory for it is refused, the connection is cut
-abbrev pub HasLast : List ℕ → ClientState → ClientState → Type 0
-HasLast text old new = (new ≡ with_stage Ending (told text old)) ⊎ (new ≡ cut_for_memory old)
-
 abbrev pub IsAnswered : OwnResource → Bool → ClientState → ClientState → Type 0
 IsAnswered Live head old new = Listens head old new
 IsAnswered Player head old new = HasLast (player_response head) old new
@@ -44,10 +41,12 @@ IsAnswered Status head old new = (numbers : Numbers) × HasLast (status_response
 
 module _ {D : Type 0} (model : DiskModel D) where
   -- ---- what the head of a connection asks for, with these bytes that have come of it
-  -- More of it has to come. Or memory for them was refused.
+  -- More of it has to come. Or there was no room for them, and it is cut.
   abbrev pub Awaits : List ℕ → HubParts D → HubParts D → ClientState → ClientState → Type 0
   Awaits bytes old new client after =
-      (new ≡ old) × ((MayCome (client.head ++ bytes) × (after ≡ heard bytes client)) ⊎ (after ≡ cut_for_memory (moved client)))
+      (new ≡ old)
+      × ((MayCome (client.head ++ bytes) × (after ≡ heard after.head_room bytes client))
+      ⊎ (LacksHeadRoom bytes client × (after ≡ cut_for_memory (moved client))))
 
   -- it is a source's, if a connection may send a stream
   abbrev pub Offers : Option Password → List ℕ → HubParts D → HubParts D → ClientState → ClientState → Type 0
@@ -62,22 +61,22 @@ module _ {D : Type 0} (model : DiskModel D) where
   Joins resource head places hub after = ⊤
 
   -- if a listener is cut, it is for want of memory, or since nothing can be heard
-  abbrev pub HasCause : OwnResource → PlacesState → HubParts D → HubParts D → ClientState → Type 0
-  HasCause Live places old new after = IsCutFor model places old new after
-  HasCause resource places old new after = ⊤
+  abbrev pub HasCause : OwnResource → PlacesState → HubParts D → HubParts D → ClientState → ClientState → Type 0
+  HasCause Live places old new client after = IsCutFor model places old new client after
+  HasCause resource places old new client after = ⊤
 
   -- the station answers it itself
   abbrev pub GetsOwn : PlacesState → List ℕ → HubParts D → HubParts D → ClientState → ClientState → Type 0
   GetsOwn places bytes old new client after =
-      (resource : OwnResource) × (head : Bool) × IsOwn resource head (client.head ++ bytes)
-      × KeepsMachine model old new × IsAnswered resource head (heard bytes client) after × Joins resource head places old after
-      × HasCause resource places old new after
+      (resource : OwnResource) × (head : Bool) × (room : ℕ) × IsOwn resource head (client.head ++ bytes)
+      × KeepsMachine model old new × IsAnswered resource head (heard room bytes client) after × Joins resource head places old after
+      × HasCause resource places old new (heard room bytes client) after
 
   -- The hub answers it: a session is connected and takes what has come. If there is no place for one the connection is cut.
   abbrev pub Connects : Option Password → List ℕ → HubParts D → HubParts D → ClientState → ClientState → Type 0
   Connects password bytes old new client after =
       (IsOther (client.head ++ bytes) ⊎ ((is_source (client.head ++ bytes) ≡ true) × (password ≡ None)))
-      × (IsConnected (Shows model) old new (heard bytes client) after ⊎ HasNoSession old new (heard bytes client) after)
+      × ((room : ℕ) × (IsConnected (Shows model) old new (heard room bytes client) after ⊎ HasNoSession old new (heard room bytes client) after))
 
   abbrev pub IsAsked : Option Password → PlacesState → List ℕ → HubParts D → HubParts D → ClientState → ClientState → Type 0
   IsAsked password places bytes old new client after =

@@ -7,7 +7,7 @@ use Rattle.import_record.specs.declared.answering.Answered.{Answered}
 use Rattle.serve_hub.specs.Running.{Answers, IsIn, Progress}
 use Rattle.serve_live.specs.Joined.{IsNew}
 use Rattle.serve_live.specs.Listening.{ListenerState}
-use Rattle.serve_clients.specs.Client.{ClientState, cut_for_memory}
+use Rattle.serve_clients.specs.Client.{ClientState, LacksHeadRoom, cut_for_memory}
 use Rattle.serve_clients.specs.Clients.{told_by}
 use Rattle.serve_clients.specs.Line.{new_line}
 use Rattle.station_hub.specs.declared.live_hub.LiveHub.{LiveHub}
@@ -35,9 +35,9 @@ come client = record client { idle = false; line = new_line }
 abbrev pub arrived : ClientState → ClientState
 arrived client = told_by true true (come client)
 
--- bytes of its head are kept behind what has come before; or memory for them was refused
+-- bytes of its head are kept behind what has come before; or there was no room for them, and it is cut
 pub record HoldsBack (bytes : List ℕ) (old new : ClientState) : Type 0 where
-  pub becomes : (new ≡ heard bytes old) ⊎ (new ≡ cut_for_memory (moved old))
+  pub becomes : (new ≡ heard new.head_room bytes old) ⊎ (LacksHeadRoom bytes old × (new ≡ cut_for_memory (moved old)))
 
 -- it hears a file from its first page on
 pub record HearsAnew (old new : ClientState) : Type 0 where

@@ -4,7 +4,7 @@ use Rattle.httparse.specs.Grammar.{RequestHead}
 use Rattle.httparse.specs.Spans.{name_and_value}
 use Rattle.serve_sources.specs.Credentials.{authorizes}
 use Rattle.import_changes.specs.declared.options.Skeletons.{Skeletons}
-use Rattle.serve_clients.specs.Client.{ClientState, cut, cut_for_memory, told, with_stage}
+use Rattle.serve_clients.specs.Client.{ClientState, HasLast, LacksHeadRoom, LacksRoom, cut, cut_for_memory, told, with_more, with_stage}
 use Rattle.serve_clients.specs.declared.client.Stage.TheVariants.{Feeding, Offering, Waiting}
 use Rattle.serve_sources.specs.Answers.{answer_after, refusal}
 use Rattle.serve_sources.specs.Asking.{HasHead}
@@ -20,7 +20,7 @@ use Rattle.station_sources.specs.Air.{HoldsMore, IsShort}
 use Rattle.station_sources.specs.Beginning.{HasBegun}
 use Rattle.station_sources.specs.declared.air.Feeder.TheVariants.{Peer}
 use Rattle.station_sources.specs.declared.air.OnAir.{OnAir}
-use Rattle.station.specs.Asked.{HasLast, heard, moved}
+use Rattle.station.specs.Asked.{heard, moved}
 use Rattle.station.specs.Beginning.{options_for}
 
 -- the head doesn't give the password (RFC 7617)
@@ -47,10 +47,11 @@ pub record BeginsAfter (key used : ℕ) (body : Body) (skeletons : Skeletons) (s
   pub feeder : source.feeder ≡ Peer key
   pub holds : HoldsMore (drop used head) begun source ⊎ IsShort (length (drop used head)) begun source
 
--- It is answered, and sends its stream from now on. If memory for the answer is refused, it is cut.
+-- It is answered, and sends its stream from now on. If there is no room for the answer, it may be cut.
 abbrev pub Feeds : List ℕ → ℕ → ClientState → ClientState → Type 0
 Feeds answer now old new =
-    (new ≡ record (told answer old) { stage = Feeding; since = now; head = [] }) ⊎ (new ≡ record (cut_for_memory old) { since = now; head = [] })
+    (new ≡ record (told new.room answer old) { stage = Feeding; since = now; head = [] })
+    ⊎ (LacksRoom answer old × (new ≡ record (cut_for_memory old) { since = now; head = [] }))
 
 -- It gets the air, which is free. If memory for its stream is refused, it is cut.
 abbrev pub GetsAir : ℕ → ℕ → Body → List ℕ → ℕ → Skeletons → List ℕ → Option OnAir → ClientState → ClientState → Type 0
@@ -72,21 +73,18 @@ Leads key now skeletons serials (Offered.Nothing used) old new client after = (n
 Leads key now skeletons serials (Offered.Body used body answer) old new client after =
     TakesOrWaits key used body answer.now now skeletons serials old new client after
 
-abbrev pub with_more : List ℕ → ClientState → ClientState
-with_more bytes client = record client { head = client.head ++ bytes }
-
--- Further bytes of its head have come, which say what becomes of it. If memory for them is refused it is cut, and if no
--- connection may send a stream.
+-- Further bytes of its head have come, which say what becomes of it. If there is no room for them it may be cut, and it is if
+-- no connection may send a stream.
 abbrev pub IsOffered : ℕ → List ℕ → ℕ → Option Password → Skeletons → List ℕ → Option OnAir → Option OnAir → ClientState → ClientState → Type 0
 IsOffered key bytes now password skeletons serials old new client after =
-    ((new ≡ old) × (after ≡ cut_for_memory client))
-    ⊎ ((new ≡ old) × (password ≡ None) × (after ≡ cut (with_more bytes client)))
-    ⊎ ((secret : Password) × (offer : Offer) × (password ≡ Some secret) × ComesOf secret (client.head ++ bytes) offer
-    × Leads key now skeletons serials offer old new (with_more bytes client) after)
+    ((new ≡ old) × LacksHeadRoom bytes client × (after ≡ cut_for_memory client))
+    ⊎ ((new ≡ old) × (password ≡ None) × (after ≡ cut (with_more after.head_room bytes client)))
+    ⊎ ((secret : Password) × (offer : Offer) × (room : ℕ) × (password ≡ Some secret) × ComesOf secret (client.head ++ bytes) offer
+    × Leads key now skeletons serials offer old new (with_more room bytes client) after)
 
 -- Its head has come so far with these bytes that it is a source's: what is said of such a head says what becomes of it. If
 -- memory for them is refused it is cut.
 abbrev pub IsSourced : ℕ → List ℕ → ℕ → Option Password → Skeletons → List ℕ → Option OnAir → Option OnAir → ClientState → ClientState → Type 0
 IsSourced key bytes now password skeletons serials old new client after =
-    ((new ≡ old) × (after ≡ cut_for_memory (moved client)))
-    ⊎ IsOffered key [] now password skeletons serials old new (with_stage Offering (heard bytes client)) after
+    ((new ≡ old) × LacksHeadRoom bytes client × (after ≡ cut_for_memory (moved client)))
+    ⊎ ((room : ℕ) × IsOffered key [] now password skeletons serials old new (with_stage Offering (heard room bytes client)) after)

@@ -1,6 +1,6 @@
 -- A source that leaves the air. Ours.
 use Rattle.std.specs.Prelude.{◌≡◌, ◌⊎◌, ℕ, Option, Some, None}
-use Rattle.serve_clients.specs.Client.{ClientState, cut_for_memory, told, with_line, with_stage}
+use Rattle.serve_clients.specs.Client.{ClientState, HasLast, with_line, with_stage}
 use Rattle.serve_clients.specs.declared.client.Stage.TheVariants.{Ending, Feeding}
 use Rattle.serve_clients.specs.declared.line.Line.{Line}
 use Rattle.serve_sources.specs.Answers.{answer_after}
@@ -9,10 +9,10 @@ use Rattle.slab.specs.Slab.{Slab, get}
 use Rattle.station_sources.specs.declared.air.Feeder.TheVariants.{Peer}
 use Rattle.station_sources.specs.declared.air.OnAir.{OnAir}
 
--- Its connection gets its last bytes: the answer, if it waits for one. If memory for it is refused the connection is cut.
+-- Its connection gets its last bytes: the answer, if it waits for one. If there is no room for it the connection may be cut.
 abbrev pub HasParted : Option Outcome → ClientState → ClientState → Type 0
 HasParted None old new = new ≡ with_stage Ending old
-HasParted (Some outcome) old new = (new ≡ with_stage Ending (told (answer_after outcome) old)) ⊎ (new ≡ cut_for_memory old)
+HasParted (Some outcome) old new = HasLast (answer_after outcome) old new
 
 -- the same of the connection among all of them, if it still sends
 abbrev pub FeederParts : Option Outcome → OnAir → Slab ClientState → Slab ClientState → Type 0

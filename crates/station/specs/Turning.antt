@@ -1,6 +1,6 @@
 -- What is done in a turn. Ours.
 use Rattle.std.specs.Prelude.{◌≡◌, ◌⊎◌, ◌&&◌, ⊤, ℕ, Bool, true, false, not, Option}
-use Rattle.serve_clients.specs.Client.{ClientState, after_of, cut_for_memory, fresh, told, with_line, with_stage}
+use Rattle.serve_clients.specs.Client.{ClientState, HasLast, after_of, fresh, with_line, with_stage}
 use Rattle.serve_clients.specs.declared.client.After.TheVariants.{Shuts}
 use Rattle.serve_clients.specs.declared.client.Stage.{Stage}
 use Rattle.serve_clients.specs.Line.{read_failed_by}
@@ -34,9 +34,9 @@ abbrev pub GoesOn : ℕ → Bool → ClientState → Option OnAir → Type 0
 GoesOn key waiting client air =
     ((client.line.moved ≡ true) × (waiting ≡ false)) ⊎ ((after_of client ≡ Shuts) ⊎ IsRead key client air)
 
--- A connection too many is told so, and gets nothing more. If memory for that is refused it is cut.
+-- A connection too many is told so, and gets nothing more.
 abbrev pub IsTurnedAway : ℕ → ClientState → Type 0
-IsTurnedAway now client = (client ≡ with_stage Ending (told FULL.now (fresh now))) ⊎ (client ≡ cut_for_memory (fresh now))
+IsTurnedAway now client = HasLast FULL.now (fresh now) client
 
 -- ---- a peer that sends no more
 -- Whoever hasn't sent its whole head is gone, and so is who listens, or was told the end. The others get what they are still

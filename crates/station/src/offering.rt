@@ -2,7 +2,7 @@
 ghost use Rattle.std.specs.Prelude.{◌≡◌, ◌≢◌, ◌++◌, ◌⊎◌, ℕ, None, Some, OnErr, OnOk, drop, false, length};
 ghost use Rattle.slab.specs.Slab.{get};
 ghost use Rattle.httparse.specs.Grammar.{RequestHead};
-ghost use Rattle.serve_clients.specs.Client.{ClientState};
+ghost use Rattle.serve_clients.specs.Client.{ClientState, HasLast};
 ghost use Rattle.serve_clients.specs.Clients.{OthersStay};
 ghost use Rattle.serve_clients.specs.declared.client.Stage.TheVariants.{Waiting as WaitingOf};
 ghost use Rattle.serve_sources.specs.Asking.{HasHead};
@@ -16,7 +16,6 @@ ghost use Rattle.station.specs.Beginning.{BeginsBeside, options_for, run_in};
 ghost use Rattle.station_sources.specs.Counting.{counted};
 ghost use Rattle.station_sources.specs.declared.air.Feeder.TheVariants.{Peer};
 ghost use Rattle.serve_sources.specs.Answers.{refusal};
-ghost use Rattle.station.specs.Asked.{HasLast};
 ghost use Rattle.station.specs.Clocks.{KeepsClocks};
 ghost use Rattle.station.specs.Offering.{ComesOf, Feeds, GetsAir, IsOffered, IsRefusal, IsUnauthorized, Leads};
 ghost use Rattle.station.specs.Kept.{AreTried};

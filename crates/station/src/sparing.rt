@@ -1,11 +1,10 @@
 //! Spare places: connections that come when there are as many as may be are asked first what they want.
 ghost use Rattle.std.specs.Prelude.{◌≡◌, ◌≢◌, ◌⊎◌, ◌++◌, ◌∷◌, [], ℕ, None, Some, Err, IfOk, IfErr, true};
 ghost use Rattle.slab.specs.Slab.{get};
-ghost use Rattle.serve_clients.specs.Client.{ClientState, fresh};
+ghost use Rattle.serve_clients.specs.Client.{ClientState, HasLast, fresh};
 ghost use Rattle.serve_clients.specs.Clients.{OthersStay};
 ghost use Rattle.serve_hub.specs.Parts.{serials_in};
 ghost use Rattle.station_sources.specs.Counting.{counted};
-ghost use Rattle.station.specs.Asked.{HasLast};
 ghost use Rattle.station.specs.Beginning.{BeginsBeside, run_in};
 ghost use Rattle.serve_sources.specs.Asking.{is_source as asks_as_source};
 ghost use Rattle.station.specs.Keeping.{OthersAirStays};

@@ -7,7 +7,7 @@ ghost use Rattle.serve_machine.specs.declared.answers.Progress.{Progress as Prog
 ghost use Rattle.serve_machine.specs.declared.fault.HubFault.{HubFault as HubFaultOf};
 ghost use Rattle.serve_hub.specs.Images.{IfFile, Reads};
 ghost use Rattle.serve_hub.specs.Showing.{Shows};
-ghost use Rattle.serve_clients.specs.Client.{ClientState, HasWritten, fresh, given, moved_if, with_line, with_stage};
+ghost use Rattle.serve_clients.specs.Client.{ClientState, HasLast, HasWritten, fresh, given, moved_if, with_line, with_stage};
 ghost use Rattle.serve_clients.specs.Line.{moved_on};
 ghost use Rattle.station_hub.specs.Asking.{stage_after};
 ghost use Rattle.serve_clients.specs.declared.client.Stage.TheVariants.{Asking as AskingOf, Feeding as FeedingOf, Offering as OfferingOf, Reading as ReadingOf, Waiting as WaitingOf};
@@ -24,7 +24,7 @@ ghost use Rattle.serve_hub.specs.Listening.{KeepsMachine};
 ghost use Rattle.serve_sources.specs.Answers.{refusal};
 ghost use Rattle.serve_sources.specs.declared.refused.Refused.TheVariants.{OnTheAir};
 ghost use Rattle.serve_clients.specs.Patience.{is_refused};
-ghost use Rattle.station.specs.Asked.{EndsSession, HasCause, HasLast, IsAnswered, IsAsked, Joins};
+ghost use Rattle.station.specs.Asked.{EndsSession, HasCause, IsAnswered, IsAsked, Joins};
 ghost use Rattle.station.specs.Spare.{IsAskedIn, is_another, is_spare};
 ghost use Rattle.std.specs.List.{filter};
 ghost use Rattle.station.specs.Clocks.{KeepsClocks, clocks_of, ended_with_input};
@@ -446,7 +446,7 @@ impl<D: Disk + Drop> Station<D> {
         ensures answers { (client : ClientState) → get self.old.clients.slots key ≡ Some client → (after : ClientState)
             × (get self.new.clients.slots key ≡ Some after) × IsAnswered resource head client after
             × Joins D.Disk resource head self.old.live.places self.old.live.hub after
-            × HasCause D.Disk resource self.old.live.places self.old.live.hub self.new.live.hub after }
+            × HasCause D.Disk resource self.old.live.places self.old.live.hub self.new.live.hub client after }
         ensures machine { KeepsMachine D.Disk self.old.live.hub self.new.live.hub }
         ensures disk { (self.new.live.hub.file ≡ self.old.live.hub.file) ⊎ IfFile (Reads D.Disk) self.old.live.hub.file self.new.live.hub.file }
         ensures recorded { StaysLive D.Disk self.old.live self.new.live }

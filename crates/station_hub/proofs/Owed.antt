@@ -71,24 +71,24 @@ pulls moves before after client new id size count (Ok given) buffer owed stage s
     )
 
 -- what is kept goes in front
-keeps_in : (stage : Stage) (hub : HubState) (client : ClientState) (left kept : List ℕ) → client.unsent ≡ [] → OwesIn stage hub client left
-    → OwesIn stage hub (record client { unsent = kept }) (kept ++ left)
-keeps_in SendingOf hub client left kept none owes =
+keeps_in : (stage : Stage) (hub : HubState) (client : ClientState) (left kept : List ℕ) (room : ℕ) → client.unsent ≡ [] → OwesIn stage hub client left
+    → OwesIn stage hub (record client { unsent = kept; room = room }) (kept ++ left)
+keeps_in SendingOf hub client left kept room none owes =
     let (rest, phase, is) = rest_of (phase_of_client hub client.session) client.unsent left owes in
     subst (λ (p : Option Phase). OwesRest p kept (kept ++ left)) (sym phase) (ap (λ (l : List ℕ). kept ++ l) (is ∙ ap (λ (l : List ℕ). l ++ rest) none))
-keeps_in Ending hub client left kept none owes = ap (λ (l : List ℕ). kept ++ l) (owes ∙ none) ∙ append-nil kept
-keeps_in Asking hub client left kept none owes = absurd owes
-keeps_in Offering hub client left kept none owes = absurd owes
-keeps_in Waiting hub client left kept none owes = absurd owes
-keeps_in Feeding hub client left kept none owes = absurd owes
-keeps_in ReadingOf hub client left kept none owes = absurd owes
-keeps_in Hearing hub client left kept none owes = absurd owes
-keeps_in Closing hub client left kept none owes = absurd owes
-keeps_in Cut hub client left kept none owes = absurd owes
+keeps_in Ending hub client left kept room none owes = ap (λ (l : List ℕ). kept ++ l) (owes ∙ none) ∙ append-nil kept
+keeps_in Asking hub client left kept room none owes = absurd owes
+keeps_in Offering hub client left kept room none owes = absurd owes
+keeps_in Waiting hub client left kept room none owes = absurd owes
+keeps_in Feeding hub client left kept room none owes = absurd owes
+keeps_in ReadingOf hub client left kept room none owes = absurd owes
+keeps_in Hearing hub client left kept room none owes = absurd owes
+keeps_in Closing hub client left kept room none owes = absurd owes
+keeps_in Cut hub client left kept room none owes = absurd owes
 
 pub keeps : (hub : HubState) (client : ClientState) (left kept : List ℕ) → client.unsent ≡ [] → Owes hub client left
     → Owes hub (record client { unsent = kept }) (kept ++ left)
-keeps hub client left kept none owes = keeps_in client.stage hub client left kept none owes
+keeps hub client left kept none owes = keeps_in client.stage hub client left kept client.room none owes
 
 -- the front of what is kept may go: what follows stays the same
 others_in : (stage : Stage) (before after : HubState) (client : ClientState) (id : ℕ) (owed : List ℕ) → client.session ≡ Some id
@@ -192,22 +192,22 @@ pulled_silent (Ok given) client pulled count buffer is =
 cut_stays : (bytes : List ℕ) (written : ℕ) (old kept : ClientState) → old.stage ≡ Cut → HasWritten bytes written old kept → kept.stage ≡ Cut
 cut_stays bytes written old kept is (inl again) = ap (λ (one : ClientState). one.stage) again.1 ∙ is
 cut_stays bytes written old kept is (inr (none, inl anew)) = ap (λ (one : ClientState). one.stage) anew ∙ is
-cut_stays bytes written old kept is (inr (none, inr short)) = ap (λ (one : ClientState). one.stage) short
+cut_stays bytes written old kept is (inr (none, inr (lacks, short))) = ap (λ (one : ClientState). one.stage) short
 
 kept_owes : (after : HubState) (old kept : ClientState) (buffer left owed : List ℕ) (count written : ℕ) → old.unsent ≡ [] → count ≤ length buffer
     → written ≤ count → HasWritten (take count buffer) written old kept → owed ≡ take count buffer ++ left → Owes after old left
     → (kept.stage ≡ Cut) ⊎ ((take written owed ≡ take written buffer) × Owes after kept (drop written owed))
 kept_owes after old kept buffer left owed count written none fits within (inl again) split owes = absurd (again.0 none)
-kept_owes after old kept buffer left owed count written none fits within (inr (empty, inr short)) split owes =
+kept_owes after old kept buffer left owed count written none fits within (inr (empty, inr (lacks, short))) split owes =
     inl (ap (λ (one : ClientState). one.stage) short)
 kept_owes after old kept buffer left owed count written none fits within (inr (empty, inl anew)) split owes =
     let inside : written ≤ length (take count buffer) = subst (λ (n : ℕ). written ≤ n) (sym (length-take-le count buffer fits)) within in
     inr (
       ap (take written) split ∙ take-append-le written (take count buffer) left inside ∙ take-take written count buffer within,
       subst (λ (one : ClientState). Owes after one (drop written owed)) (sym anew)
-          (subst (λ (bytes : List ℕ). Owes after (record old { unsent = drop written (take count buffer) }) bytes)
+          (subst (λ (bytes : List ℕ). Owes after (record old { unsent = drop written (take count buffer); room = kept.room }) bytes)
           (sym (ap (drop written) split ∙ drop-append-le written (take count buffer) left inside))
-          (keeps after old left (drop written (take count buffer)) none owes)),
+          (keeps_in old.stage after old left (drop written (take count buffer)) kept.room none owes)),
     )
 
 pub exchanges : ((old new : HubState) (id size : ℕ) (rest : List ℕ) (given : Given) → phase_of old id ≡ Some (Sending rest)

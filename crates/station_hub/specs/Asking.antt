@@ -1,5 +1,5 @@
 -- What a connection asks for, and how it is taken. Ours.
-use Rattle.std.specs.Prelude.{◌≡◌, ◌⊎◌, ℕ, Bool, true, false, Some, None, Result, Ok, Err, List, [], ◌++◌}
+use Rattle.std.specs.Prelude.{◌≡◌, ◌≢◌, ◌⊎◌, ℕ, Bool, true, false, Some, None, Result, Ok, Err, List, [], ◌++◌}
 use Rattle.serve_machine.specs.Calls.{Steps}
 use Rattle.serve_machine.specs.Hub.{HubState, Connect, Receive}
 use Rattle.serve_machine.specs.declared.answers.Progress.{Progress}
@@ -15,25 +15,24 @@ use Rattle.station_hub.specs.Giving.{LosesFile, LosesSession}
 use Rattle.station_hub.specs.Marking.{Start}
 use Rattle.station_hub.specs.Places.{PlacesState}
 use Rattle.station_hub.specs.Tracking.{Tracks}
-use Rattle.serve_clients.specs.Client.{ClientState, cut, cut_for_memory, told, with_stage}
+use Rattle.serve_clients.specs.Client.{ClientState, HasLast, LacksHeadRoom, LacksRoom, cut, cut_for_memory, told, with_more}
+use Rattle.serve_live.specs.Boundaries.{place_to_join}
 use Rattle.serve_live.specs.Listening.{ListenerState}
 use Rattle.serve_sources.specs.Asking.{IsOther, IsOwn, MayCome, is_source}
 use Rattle.serve_sources.specs.declared.answers.TheConstants.{LIVE}
 use Rattle.serve_sources.specs.declared.asking.Asks.{Asks}
 use Rattle.serve_sources.specs.declared.asking.Asks.TheVariants as Asked
 use Rattle.serve_clients.specs.declared.client.Stage.{Stage}
-use Rattle.serve_clients.specs.declared.client.Stage.TheVariants.{Reading, Sending, Hearing, Ending, Cut}
+use Rattle.serve_clients.specs.declared.client.Stage.TheVariants.{Reading, Sending, Hearing, Cut}
 
 -- ---- what its head asks for
-abbrev pub with_head : List ℕ → ClientState → ClientState
-with_head bytes client = record client { head = client.head ++ bytes }
-
--- The head asks for this, with these bytes that have come of it. Or memory for them was refused.
+-- The head asks for this, with these bytes that have come of it. Or there was no room for them, and it is cut.
 abbrev pub HasAsked : Asks → List ℕ → ClientState → ClientState → Type 0
-HasAsked Asked.More bytes old new = (MayCome (old.head ++ bytes) × (new ≡ with_head bytes old)) ⊎ (new ≡ cut_for_memory old)
-HasAsked Asked.Source bytes old new = (is_source (old.head ++ bytes) ≡ true) × (new ≡ with_head bytes old)
-HasAsked (Asked.Own resource head) bytes old new = IsOwn resource head (old.head ++ bytes) × (new ≡ with_head bytes old)
-HasAsked Asked.File bytes old new = IsOther (old.head ++ bytes) × (new ≡ with_head bytes old)
+HasAsked Asked.More bytes old new =
+    (MayCome (old.head ++ bytes) × (new ≡ with_more new.head_room bytes old)) ⊎ (LacksHeadRoom bytes old × (new ≡ cut_for_memory old))
+HasAsked Asked.Source bytes old new = (is_source (old.head ++ bytes) ≡ true) × (new ≡ with_more new.head_room bytes old)
+HasAsked (Asked.Own resource head) bytes old new = IsOwn resource head (old.head ++ bytes) × (new ≡ with_more new.head_room bytes old)
+HasAsked Asked.File bytes old new = IsOther (old.head ++ bytes) × (new ≡ with_more new.head_room bytes old)
 
 -- ---- how it is taken
 -- the stage of a connection whose session has taken bytes with this answer
@@ -80,9 +79,9 @@ headless client = record client { head = [] }
 -- A connection listens: it gets the head of the answer, and hears what follows by a listener, unless the head alone was asked
 -- for. If memory is refused, and after a fault of the file, it is cut.
 abbrev pub Listens : Bool → ClientState → ClientState → Type 0
-Listens true old new = (new ≡ with_stage Ending (told LIVE.now (headless old))) ⊎ (new ≡ cut_for_memory (headless old))
+Listens true old new = HasLast LIVE.now (headless old) new
 Listens false old new =
-    ((listener : ListenerState) × (new ≡ record (told LIVE.now (headless old)) { stage = Hearing; listener = Some listener }))
+    ((listener : ListenerState) × (new ≡ record (told new.room LIVE.now (headless old)) { stage = Hearing; listener = Some listener }))
     ⊎ (new ≡ record (cut (headless old)) { listener = new.listener; refused = new.refused })
 
 -- Nothing can be heard of what is committed: there is no file, or its disk has failed.
@@ -91,6 +90,9 @@ CannotHear model places old new =
     (old.file ≡ None)
     ⊎ ((start : Start) (machine : HubState) → Shows model old machine → Tracks start machine places → IfFile (Fails model) old.file new.file)
 
--- why a connection that listens is cut, if it is
-abbrev pub IsCutFor : {D : Type 0} → DiskModel D → PlacesState → HubParts D → HubParts D → ClientState → Type 0
-IsCutFor model places old new after = after.stage ≡ Cut → (after.refused ≡ true) ⊎ CannotHear model places old new
+-- Why a connection that listens is cut, if it is: there was no room for the head of the answer; there is a place to join, and
+-- memory for a listener there was refused; or nothing can be heard.
+abbrev pub IsCutFor : {D : Type 0} → DiskModel D → PlacesState → HubParts D → HubParts D → ClientState → ClientState → Type 0
+IsCutFor model places old new before after =
+    after.stage ≡ Cut
+    → LacksRoom LIVE.now before ⊎ ((place_to_join places.boundaries ≢ None) × (after.refused ≡ true)) ⊎ CannotHear model places old new

@@ -1,5 +1,5 @@
 //! What a connection asks for.
-ghost use Rattle.std.specs.Prelude.{◌≡◌, ◌⊎◌, ◌++◌, ℕ, None, Some, IfOk, IfErr, Result, true};
+ghost use Rattle.std.specs.Prelude.{◌≡◌, ◌≢◌, ◌⊎◌, ◌++◌, ℕ, None, Some, IfOk, IfErr, Result, true};
 ghost use Rattle.serve_live.specs.Boundaries.{place_to_join};
 ghost use Rattle.serve_live.specs.Listening.{ListenerState};
 ghost use Rattle.serve_clients.specs.declared.client.Stage.TheVariants.{Cut as CutOf, Hearing as HearingOf};
@@ -14,7 +14,7 @@ ghost use Rattle.station_hub.specs.Asking.{CannotConnect, CannotHear, CannotRece
 ghost use Rattle.station_hub.specs.Keeping.{KeepsRecorded};
 ghost use Rattle.station_hub.specs.Marking.{Start};
 ghost use Rattle.station_hub.specs.Tracking.{JoinsAt, Tracks};
-ghost use Rattle.serve_clients.specs.Client.{cut_for_memory, with_line, with_stage};
+ghost use Rattle.serve_clients.specs.Client.{LacksHeadRoom, cut_for_memory, with_line, with_more, with_stage};
 ghost use Rattle.serve_clients.specs.Line.{moved_on};
 ghost use Rattle.serve_sources.specs.Asking.{is_source};
 ghost use Rattle.serve_sources.specs.declared.asking.Asks.{Asks as AsksOf};
@@ -35,13 +35,16 @@ pub fn notice(client: &mut Client, bytes: &[u8])
     client.note_heard(bytes);
 }
 
-/// Adds bytes to the head, and says what it asks for. If memory for them is refused, the connection is cut.
+/// Adds bytes to the head, and says what it asks for. If there is no room for them and memory is refused, the connection
+/// is cut.
 pub fn ask(client: &mut Client, bytes: &[u8]) -> Asks
-    ensures client { (client.new ≡ record client.old { head = client.old.head ++ bytes.now }) ⊎ (client.new ≡ cut_for_memory client.old) }
+    ensures client { (client.new ≡ with_more client.new.head_room bytes.now client.old)
+        ⊎ (LacksHeadRoom bytes.now client.old × (client.new ≡ cut_for_memory client.old)) }
     ensures asks { HasAsked result bytes.now client.old client.new }
     // A source is known by its method, unless memory was refused.
     ensures source { is_source (client.old.head ++ bytes.now) ≡ true
-        → (result ≡ AsksOf.Source) ⊎ ((result ≡ AsksOf.More) × (client.new ≡ cut_for_memory client.old)) }
+        → (result ≡ AsksOf.Source)
+        ⊎ ((result ≡ AsksOf.More) × LacksHeadRoom bytes.now client.old × (client.new ≡ cut_for_memory client.old)) }
 {
     match client.hear(bytes) {
         Ok(()) => Asks::of(client.head.as_slice()),
@@ -121,7 +124,7 @@ impl<D: Disk + Drop> LiveHub<D> {
             → client.new.stage ≡ HearingOf → (listener : ListenerState) × (client.new.listener ≡ Some listener)
             × JoinsAt (place_to_join self.old.places.boundaries) machine.committed listener }
         ensures becomes { Listens head client.old client.new }
-        ensures cause { IsCutFor D.Disk self.old.places self.old.hub self.new.hub client.new }
+        ensures cause { IsCutFor D.Disk self.old.places self.old.hub self.new.hub client.old client.new }
         ensures machine { KeepsMachine D.Disk self.old.hub self.new.hub }
         ensures disk { (self.new.hub.file ≡ self.old.hub.file)
             ⊎ IfFile (Reads D.Disk) self.old.hub.file self.new.hub.file }
@@ -149,7 +152,8 @@ impl<D: Disk + Drop> LiveHub<D> {
     fn join(&mut self) -> Result<Listener, HubFault>
         ensures joins { (start : Start) (machine : HubState) → Shows D.Disk self.old.hub machine → Tracks start machine self.old.places
             → IfOk result (λ listener. JoinsAt (place_to_join self.old.places.boundaries) machine.committed listener) }
-        ensures cause { IfErr result (λ fault. (fault ≡ HubFault.Memory) ⊎ CannotHear D.Disk self.old.places self.old.hub self.new.hub) }
+        ensures cause { IfErr result (λ fault. ((fault ≡ HubFault.Memory) × (place_to_join self.old.places.boundaries ≢ None))
+            ⊎ CannotHear D.Disk self.old.places self.old.hub self.new.hub) }
         ensures machine { KeepsMachine D.Disk self.old.hub self.new.hub }
         ensures disk { (self.new.hub.file ≡ self.old.hub.file)
             ⊎ IfFile (Reads D.Disk) self.old.hub.file self.new.hub.file }

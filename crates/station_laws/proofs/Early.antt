@@ -2,7 +2,7 @@
 use Rattle.std.proofs.Common.{◌≡◌, ◌≢◌, ◌⊎◌, ◌&&◌, ℕ, zero, suc, Bool, true, false, Option, Some, None, Result, Ok, List, [], ◌++◌, take, drop, if◌then◌else◌, refl, sym, ◌∙◌, ap, subst, inl, inr}
 use Rattle.std.specs.Prelude.{nat_eq}
 use Rattle.std.proofs.lemmas.Bool.{cond-true}
-use Rattle.serve_clients.specs.Client.{ClientState, HasWritten, ended_if, given as given_to, is_hearing, with_stage}
+use Rattle.serve_clients.specs.Client.{ClientState, HasLast, HasWritten, ended_if, given as given_to, is_hearing, with_stage}
 use Rattle.serve_clients.specs.declared.client.Stage.{Stage}
 use Rattle.serve_clients.specs.declared.client.Stage.TheVariants.{Asking, Reading, Sending, Ending, Cut}
 use Rattle.serve_machine.specs.Hub.{Connect, HubState, Reading as IsReading, Receive, Sending as IsSending, hub_step, phase_of}
@@ -13,7 +13,7 @@ use Rattle.serve_sources.specs.Asking.{IsOwn, is_source as is_source_head}
 use Rattle.serve_sources.specs.declared.own.OwnResource.{OwnResource}
 use Rattle.station_hub.specs.Places.{PlacesState}
 use Rattle.serve_sources.specs.declared.answers.TheConstants.{FULL}
-use Rattle.station.specs.Asked.{HasLast, IsAnswered, heard, moved}
+use Rattle.station.specs.Asked.{IsAnswered, heard, moved}
 use Rattle.station_laws.specs.Calling.{Call, Received}
 use Rattle.station.specs.Passing.{IsLike, Stays, expects_nothing, is_source}
 use Rattle.station_laws.specs.Written.{IsTold, given_after, received_by, written, written_by}
@@ -66,7 +66,7 @@ nothing_kept bytes count old mid nothing none (inr (empty, inl anew)) =
     drop_nothing : (n : ℕ) (none : List ℕ) → none ≡ [] → drop n none ≡ []
     drop_nothing zero none is = is
     drop_nothing (suc n) none is = ap (drop (suc n)) is
-nothing_kept bytes count old mid nothing none (inr (empty, inr short)) = (
+nothing_kept bytes count old mid nothing none (inr (empty, inr (lacks, short))) = (
   inr (
     ap (λ (one : ClientState). one.stage) short,
     ap (λ (one : ClientState). one.session) short,
@@ -113,14 +113,14 @@ pub data Early (key : ℕ) (call : Call) (places : PlacesState) (before after : 
   Offers : (bytes : List ℕ) (now : ℕ) → call ≡ Received key bytes now → old.stage ≡ Asking → is_source_head (old.head ++ bytes) ≡ true
       → new.session ≡ old.session → needs_none new.stage ≡ true → Early key call places before after old new given
   Replies : (bytes : List ℕ) (now : ℕ) (resource : OwnResource) (head : Bool) → call ≡ Received key bytes now → old.stage ≡ Asking
-      → IsOwn resource head (old.head ++ bytes) → IsAnswered resource head (heard bytes old) new → JoinsHere resource head places before new
+      → IsOwn resource head (old.head ++ bytes) → ((room : ℕ) × IsAnswered resource head (heard room bytes old) new) → JoinsHere resource head places before new
       → after ≡ before → Early key call places before after old new given
-  Declines : (bytes : List ℕ) (now : ℕ) → call ≡ Received key bytes now → old.stage ≡ Asking → HasLast FULL.now (heard bytes old) new
+  Declines : (bytes : List ℕ) (now : ℕ) → call ≡ Received key bytes now → old.stage ≡ Asking → ((room : ℕ) × HasLast FULL.now (heard room bytes old) new)
       → Early key call places before after old new given
-  Awaits : (bytes : List ℕ) (now : ℕ) → call ≡ Received key bytes now → old.stage ≡ Asking → new ≡ heard bytes old → Early key call places before after old new given
+  Awaits : (bytes : List ℕ) (now : ℕ) → call ≡ Received key bytes now → old.stage ≡ Asking → new ≡ heard new.head_room bytes old → Early key call places before after old new given
   Connects : (bytes : List ℕ) (now id : ℕ) (progress : Result Progress HubFault) (between : HubState) → call ≡ Received key bytes now → old.stage ≡ Asking
       → hub_step before (Connect (Ok id)) between → hub_step between (Receive id (old.head ++ bytes) progress) after
-      → new ≡ record (heard bytes old) { stage = stage_after progress; session = Some id; head = [] } → Early key call places before after old new given
+      → new ≡ record (heard new.head_room bytes old) { stage = stage_after progress; session = Some id; head = [] } → Early key call places before after old new given
   Reads : (bytes : List ℕ) (now id : ℕ) (progress : Result Progress HubFault) → call ≡ Received key bytes now → old.stage ≡ Reading → old.session ≡ Some id
       → hub_step before (Receive id bytes progress) after → new ≡ with_stage (stage_after progress) (moved old) → Early key call places before after old new given
 
@@ -190,7 +190,7 @@ given_needs (suc count) now ending client needs = either client.idle
 written_needs : (bytes : List ℕ) (count : ℕ) (old mid : ClientState) → HasWritten bytes count old mid → needs_none old.stage ≡ true → needs_none mid.stage ≡ true
 written_needs bytes count old mid (inl again) needs = ap (λ (one : ClientState). needs_none one.stage) again.1 ∙ needs
 written_needs bytes count old mid (inr (none, inl anew)) needs = ap (λ (one : ClientState). needs_none one.stage) anew ∙ needs
-written_needs bytes count old mid (inr (none, inr short)) needs = ap (λ (one : ClientState). needs_none one.stage) short
+written_needs bytes count old mid (inr (none, inr (lacks, short))) needs = ap (λ (one : ClientState). needs_none one.stage) short
 
 stays_needs : (old new : ClientState) → Stays old new → needs_none old.stage ≡ true → needs_none new.stage ≡ true
 stays_needs old new (inl is) needs = ap needs_none is.0 ∙ needs

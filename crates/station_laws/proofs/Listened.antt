@@ -133,7 +133,7 @@ wrote bytes given left unsent count old mid is same within waits (inr (none, inl
       subst (λ (l : List ℕ). WaitsFor l [] kept) (sym now) (nothing_given kept),
       inl (refl, ap (λ (one : ClientState). one.stage) anew, ap (λ (one : ClientState). one.listener) anew),
     )
-wrote bytes given left unsent count old mid is same within waits (inr (none, inr short)) =
+wrote bytes given left unsent count old mid is same within waits (inr (none, inr (lacks, short))) =
     let kept = drop count bytes in (
       [],
       kept,

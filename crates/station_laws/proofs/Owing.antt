@@ -155,7 +155,7 @@ written_of machine old mid bytes given owed count same within (inr (none, inl an
       subst (λ (one : ClientState). IsOwed machine one [] (kept ++ owes.rest)) (sym anew)
           (record { left = kept; rest = owes.rest; waits = nothing_given kept; rests = owes.rests; is = refl }),
     )
-written_of machine old mid bytes given owed count same within (inr (none, inr short)) owes =
+written_of machine old mid bytes given owed count same within (inr (none, inr (lacks, short))) owes =
     let kept = drop count bytes in (
       kept ++ owes.rest,
       owes.is ∙ ap (λ (l : List ℕ). l ++ owes.rest) (no_unsent old.unsent given owes.left none owes.waits ∙ sym same ∙ sym (take-append-drop count bytes))

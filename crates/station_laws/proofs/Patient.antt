@@ -5,7 +5,7 @@ use Rattle.std.proofs.lemmas.Bool.{cases_Bool}
 use Rattle.std.proofs.lemmas.Bool.Decides.{eqb_tells, leb_tells}
 use Rattle.disk_model.specs.declared.disk.Disk.{Ghosts as DiskModel}
 use Rattle.import_changes.specs.declared.options.Skeletons.{Skeletons}
-use Rattle.serve_clients.specs.Client.{ClientState, HasWritten, after_in, after_of, ended_if, given as given_to, is_hearing, moved_if, with_line}
+use Rattle.serve_clients.specs.Client.{ClientState, HasLast, HasWritten, after_in, after_of, ended_if, given as given_to, is_hearing, moved_if, with_line, with_more}
 use Rattle.serve_clients.specs.Clients.{HasTurn, MayHaveTurn, told_by, unread_by, unwritten_by, with_turn}
 use Rattle.serve_clients.specs.Line.{moved_on, taken_off}
 use Rattle.serve_clients.specs.Patience.{is_overdue, is_over_by, is_refused, is_refused_in, looked_at, patience}
@@ -22,10 +22,9 @@ use Rattle.serve_sources.specs.declared.password.Password.{Password}
 use Rattle.serve_sources.specs.declared.refused.Refused.TheVariants.{OnTheAir}
 use Rattle.slab.specs.Slab.{get}
 use Rattle.station_sources.specs.declared.air.OnAir.{OnAir}
-use Rattle.station.specs.Asked.{HasLast}
 use Rattle.station.specs.Ending.{is_over}
 use Rattle.station.specs.Kept.{InPlace, IsKept}
-use Rattle.station.specs.Offering.{GetsAir, IsOffered, Leads, with_more}
+use Rattle.station.specs.Offering.{GetsAir, IsOffered, Leads}
 use Rattle.station.specs.Parting.{HasParted}
 use Rattle.station.specs.Succeeding.{is_waiting}
 use Rattle.station.specs.Turning.{half_closed, stage_at_half_close}
@@ -80,7 +79,7 @@ ending_feeds e = cc
 -- who was told the last, or was cut, doesn't wait
 last_waits : (text : List ℕ) (old new : ClientState) → HasLast text old new → new.stage ≡ Waiting → ⊥
 last_waits text old new (inl is) waits = ending_waits (ap (λ (one : ClientState). one.stage) (sym is) ∙ waits)
-last_waits text old new (inr is) waits = cut_waits (ap (λ (one : ClientState). one.stage) (sym is) ∙ waits)
+last_waits text old new (inr (lacks, is)) waits = cut_waits (ap (λ (one : ClientState). one.stage) (sym is) ∙ waits)
 
 -- ---- what is given
 given_stage : (count now : ℕ) (over : Bool) (client : ClientState) → is_hearing client.stage ≡ false → (given_to count over now client).stage ≡ client.stage
@@ -114,7 +113,7 @@ moved_later since (suc count) now client before after = after
 written_since : (bytes : List ℕ) (count : ℕ) (old new : ClientState) → HasWritten bytes count old new → new.since ≡ old.since
 written_since bytes count old new (inl (some, is)) = ap (λ (one : ClientState). one.since) is
 written_since bytes count old new (inr (none, inl is)) = ap (λ (one : ClientState). one.since) is
-written_since bytes count old new (inr (none, inr is)) = ap (λ (one : ClientState). one.since) is
+written_since bytes count old new (inr (none, inr (lacks, is))) = ap (λ (one : ClientState). one.since) is
 
 unread_since : (trouble : Trouble) (client : ClientState) → (unread_by trouble client).since ≡ client.since
 unread_since Blocked client = refl
@@ -172,7 +171,7 @@ module _ {D : Type 0} (model : DiskModel D) where
     where
       last_hears : (after : ClientState) → HasLast (refusal OnTheAir) w.client after → is_hearing after.stage ≡ false
       last_hears after (inl is) = ap (λ (one : ClientState). is_hearing one.stage) is
-      last_hears after (inr is) = ap (λ (one : ClientState). is_hearing one.stage) is
+      last_hears after (inr (lacks, is)) = ap (λ (one : ClientState). is_hearing one.stage) is
 
       told : (after : ClientState) → HasLast (refusal OnTheAir) w.client after
           → get new.clients.slots key ≡ Some (given_to count (is_over old.air old.ending) now after) → ⊥
@@ -203,7 +202,7 @@ module _ {D : Type 0} (model : DiskModel D) where
       wrote after found zero_is (inr (empty, inl is)) =
           still key since old new w after found (ap (λ (one : ClientState). one.stage) is ∙ w.waits) (ap (λ (one : ClientState). one.since) is)
           (ap (λ (one : ClientState). one.unsent) is ∙ ap (λ (n : ℕ). drop n bytes) zero_is ∙ none ∙ sym w.told)
-      wrote after found zero_is (inr (empty, inr is)) =
+      wrote after found zero_is (inr (empty, inr (lacks, is))) =
           absurd (cut_waits (ap (λ (one : ClientState). one.stage) (sym is) ∙ at_stage Waiting (get new.clients.slots key) after at found))
 
   own_unread : (key since : ℕ) (trouble : Trouble) (old new : Station D) → WaitsSince key since old → HasReadFailed model key trouble old new
@@ -226,7 +225,7 @@ module _ {D : Type 0} (model : DiskModel D) where
       cut_in Interrupted kept is = is
       cut_in Broken kept is = refl
 
-      failed : (t : Trouble) (kept : ClientState) → get new.clients.slots key ≡ Some (unwritten_by t kept) → kept ≡ record w.client { unsent = bytes }
+      failed : (t : Trouble) (kept : ClientState) → get new.clients.slots key ≡ Some (unwritten_by t kept) → kept ≡ record w.client { unsent = bytes; room = kept.room }
           → WaitsSince key since new
       failed Blocked kept left is =
           still key since old new w (unwritten_by Blocked kept) left (ap (λ (one : ClientState). one.stage) is ∙ w.waits) (ap (λ (one : ClientState). one.since) is)
@@ -239,7 +238,7 @@ module _ {D : Type 0} (model : DiskModel D) where
       wrote : (kept : ClientState) → get new.clients.slots key ≡ Some (unwritten_by trouble kept) → HasWritten bytes 0 w.client kept → WaitsSince key since new
       wrote kept left (inl (some, is)) = absurd (some w.told)
       wrote kept left (inr (empty, inl is)) = failed trouble kept left is
-      wrote kept left (inr (empty, inr is)) =
+      wrote kept left (inr (empty, inr (lacks, is))) =
           absurd (cut_waits (sym (cut_in trouble kept (ap (λ (one : ClientState). one.stage) is))
           ∙ at_stage Waiting (get new.clients.slots key) (unwritten_by trouble kept) at left))
 
@@ -298,22 +297,23 @@ module _ {D : Type 0} (model : DiskModel D) where
 
   -- who is offered the air and waits on is as it was
   offered_waits : (key now : ℕ) (password : Option Password) (skeletons : Skeletons) (serials : List ℕ) (begun : Option OnAir) (client mid : ClientState)
-      → IsOffered key [] now password skeletons serials None begun client mid → mid.stage ≡ Waiting → mid ≡ with_more [] client
-  offered_waits key now password skeletons serials begun client mid (inl (none, is)) waits =
+      → IsOffered key [] now password skeletons serials None begun client mid → mid.stage ≡ Waiting → (room : ℕ) × (mid ≡ with_more room [] client)
+  offered_waits key now password skeletons serials begun client mid (inl (none, lacks, is)) waits =
       absurd (cut_waits (ap (λ (one : ClientState). one.stage) (sym is) ∙ waits))
   offered_waits key now password skeletons serials begun client mid (inr (inl (none, unset, is))) waits =
       absurd (cut_waits (ap (λ (one : ClientState). one.stage) (sym is) ∙ waits))
-  offered_waits key now password skeletons serials begun client mid (inr (inr (secret, offer, is, comes, leads))) waits = led offer leads
+  offered_waits key now password skeletons serials begun client mid (inr (inr (secret, offer, room, is, comes, leads))) waits = (room, led offer leads)
     where
-      gets : (used : ℕ) (body : Body) (answer : List ℕ) → GetsAir key used body answer now skeletons serials begun (with_more [] client) mid → mid ≡ with_more [] client
+      gets : (used : ℕ) (body : Body) (answer : List ℕ) → GetsAir key used body answer now skeletons serials begun (with_more room [] client) mid
+          → mid ≡ with_more room [] client
       gets used body answer (inl (none, cut)) = absurd (cut_waits (ap (λ (one : ClientState). one.stage) (sym cut) ∙ waits))
       gets used body answer (inr (source, on, begins, inl feeds)) = absurd (feeding_waits (ap (λ (one : ClientState). one.stage) (sym feeds) ∙ waits))
-      gets used body answer (inr (source, on, begins, inr cut)) = absurd (cut_waits (ap (λ (one : ClientState). one.stage) (sym cut) ∙ waits))
+      gets used body answer (inr (source, on, begins, inr (lacks, cut))) = absurd (cut_waits (ap (λ (one : ClientState). one.stage) (sym cut) ∙ waits))
 
-      led : (o : Offer) → Leads key now skeletons serials o None begun (with_more [] client) mid → mid ≡ with_more [] client
+      led : (o : Offer) → Leads key now skeletons serials o None begun (with_more room [] client) mid → mid ≡ with_more room [] client
       led Offered.More (none, same) = same
-      led (Offered.Refused why) (none, last) = absurd (last_waits _ (with_more [] client) mid last waits)
-      led (Offered.Nothing used) (none, last) = absurd (last_waits _ (with_more [] client) mid last waits)
+      led (Offered.Refused why) (none, last) = absurd (last_waits _ (with_more room [] client) mid last waits)
+      led (Offered.Nothing used) (none, last) = absurd (last_waits _ (with_more room [] client) mid last waits)
       led (Offered.Body used body answer) air = gets used body answer.now air
 
   kept_waits : (key since now : ℕ) (password : Option Password) (old new : Station D) (w : WaitsSince key since old) (after : ClientState)
@@ -323,7 +323,7 @@ module _ {D : Type 0} (model : DiskModel D) where
   kept_waits key since now password old new w after left waits (inr (inl (feeds, line, answer, parted))) =
       absurd (feeding_waits (sym feeds ∙ w.waits))
   kept_waits key since now password old new w after left waits (inr (inr (waited, skeletons, serials, begun, mid, line, offered, is))) =
-      let same = offered_waits key now password skeletons serials begun w.client mid offered (ap (λ (one : ClientState). one.stage) (sym is) ∙ waits) in
+      let (room, same) = offered_waits key now password skeletons serials begun w.client mid offered (ap (λ (one : ClientState). one.stage) (sym is) ∙ waits) in
       still key since old new w after left waits (ap (λ (one : ClientState). one.since) is ∙ ap (λ (one : ClientState). one.since) same)
       (ap (λ (one : ClientState). one.unsent) is ∙ ap (λ (one : ClientState). one.unsent) same)
 
@@ -490,7 +490,7 @@ module _ {D : Type 0} (model : DiskModel D) where
       gone : (answer : _) → HasParted answer (with_line line f.client) after → ⊥
       gone None is = ending_feeds (ap (λ (one : ClientState). one.stage) (sym is) ∙ at_stage Feeding (get new.clients.slots key) after at left)
       gone (Some outcome) (inl is) = ending_feeds (ap (λ (one : ClientState). one.stage) (sym is) ∙ at_stage Feeding (get new.clients.slots key) after at left)
-      gone (Some outcome) (inr is) = cut_feeds (ap (λ (one : ClientState). one.stage) (sym is) ∙ at_stage Feeding (get new.clients.slots key) after at left)
+      gone (Some outcome) (inr (lacks, is)) = cut_feeds (ap (λ (one : ClientState). one.stage) (sym is) ∙ at_stage Feeding (get new.clients.slots key) after at left)
   feeding_stepped key since now password old new f after left at (inr (inr (waited, skeletons, serials, begun, mid, line, offered, is))) =
       absurd (false_true (sym (ap is_waiting f.feeds) ∙ waited))
     where

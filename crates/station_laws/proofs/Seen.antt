@@ -4,7 +4,7 @@ use Rattle.std.specs.Prelude.{nat_eq, ⊤}
 use Rattle.std.proofs.lemmas.Bool.{cond-false}
 use Rattle.std.proofs.lemmas.Bool.Decides.{eqb_tells}
 use Rattle.disk_model.specs.declared.disk.Disk.{Ghosts as DiskModel}
-use Rattle.serve_clients.specs.Client.{ClientState, HasWritten, after_of, given as given_to, with_stage}
+use Rattle.serve_clients.specs.Client.{ClientState, HasLast, HasWritten, after_of, given as given_to, with_stage}
 use Rattle.serve_clients.specs.Clients.{OthersStay}
 use Rattle.serve_clients.specs.declared.client.After.TheVariants.{Shuts}
 use Rattle.serve_clients.specs.declared.client.Stage.{Stage}
@@ -31,7 +31,7 @@ use Rattle.station_hub.specs.Tracking.{JoinsAt, Tracks, TracksOn}
 use Rattle.station_hub.specs.Asking.{stage_after}
 use Rattle.station_hub.specs.Giving.{HasHeard, HasPulled}
 use Rattle.serve_sources.specs.declared.answers.TheConstants.{FULL}
-use Rattle.station.specs.Asked.{HasLast, IsAnswered, heard, moved}
+use Rattle.station.specs.Asked.{IsAnswered, heard, moved}
 use Rattle.station_laws.specs.Calling.{Call, Closed, Next, Received, WriteFailed, Wrote}
 use Rattle.station.specs.Passing.{ArePassed, IsLike, IsPassed, Stays, expects_nothing, has_offered, is_source, session_in}
 use Rattle.station_laws.specs.Written.{AreApart, IsTold, given_after, received_by, written_by}
@@ -110,15 +110,15 @@ pub data Seen (key : ℕ) (call : Call) (places : PlacesState) (before after : H
   Offered : (bytes : List ℕ) (now : ℕ) → call ≡ Received key bytes now → old.stage ≡ Asking → is_source_head (old.head ++ bytes) ≡ true
       → new.session ≡ old.session → needs_none new.stage ≡ true → Seen key call places before after old new
   Answered : (bytes : List ℕ) (now : ℕ) (resource : OwnResource) (head : Bool) → call ≡ Received key bytes now → old.stage ≡ Asking
-      → IsOwn resource head (old.head ++ bytes) → IsAnswered resource head (heard bytes old) new → JoinsHere resource head places before new
+      → IsOwn resource head (old.head ++ bytes) → ((room : ℕ) × IsAnswered resource head (heard room bytes old) new) → JoinsHere resource head places before new
       → after ≡ before → Seen key call places before after old new
-  Declined : (bytes : List ℕ) (now : ℕ) → call ≡ Received key bytes now → old.stage ≡ Asking → HasLast FULL.now (heard bytes old) new
+  Declined : (bytes : List ℕ) (now : ℕ) → call ≡ Received key bytes now → old.stage ≡ Asking → ((room : ℕ) × HasLast FULL.now (heard room bytes old) new)
       → Seen key call places before after old new
   Shut : after_of old ≡ Shuts → IsLike (with_stage Closing old) new → SamePhase old before after → IsAside key call → Seen key call places before after old new
-  Awaited : (bytes : List ℕ) (now : ℕ) → call ≡ Received key bytes now → old.stage ≡ Asking → new ≡ heard bytes old → Seen key call places before after old new
+  Awaited : (bytes : List ℕ) (now : ℕ) → call ≡ Received key bytes now → old.stage ≡ Asking → new ≡ heard new.head_room bytes old → Seen key call places before after old new
   Connected : (bytes : List ℕ) (now id : ℕ) (progress : Result Progress HubFault) (between : HubState) → call ≡ Received key bytes now → old.stage ≡ Asking
       → hub_step before (Connect (Ok id)) between → hub_step between (Receive id (old.head ++ bytes) progress) after
-      → new ≡ record (heard bytes old) { stage = stage_after progress; session = Some id; head = [] } → Seen key call places before after old new
+      → new ≡ record (heard new.head_room bytes old) { stage = stage_after progress; session = Some id; head = [] } → Seen key call places before after old new
   Read : (bytes : List ℕ) (now id : ℕ) (progress : Result Progress HubFault) → call ≡ Received key bytes now → old.stage ≡ Reading → old.session ≡ Some id
       → hub_step before (Receive id bytes progress) after → new ≡ with_stage (stage_after progress) (moved old) → Seen key call places before after old new
   Gave : (size now count : ℕ) (buffer : List ℕ) (mid : ClientState) (ending : Bool) → call ≡ Next key size now count buffer

@@ -194,10 +194,12 @@ module _ {D : Type 0} (model : DiskModel D) (laws : OwnLaws) where
   asks_step key old one later machine after client new given before shown apart found nothing (asks, none, unsent, head) (Offers bytes now is too source session needs) owes reads next other =
       absurd (other (session ∙ none) needs)
   asks_step key old one later machine after client new given before shown apart found nothing (asks, none, unsent, head_is) (Replies bytes now resource head is too own answered joins same) owes reads next other =
-      let (session, needs) = answered_session resource head (heard bytes client) new answered in
+      let (room, replied) = answered in
+      let (session, needs) = answered_session resource head (heard room bytes client) new replied in
       absurd (other (session ∙ none) needs)
   asks_step key old one later machine after client new given before shown apart found nothing (asks, none, unsent, head) (Declines bytes now is too last) owes reads next other =
-      let (session, needs) = last_session FULL.now (heard bytes client) new last in
+      let (room, saying) = last in
+      let (session, needs) = last_session FULL.now (heard room bytes client) new saying in
       absurd (other (session ∙ none) needs)
   asks_step key old one later machine after client new given before shown apart found nothing (asks, none, unsent, head) (Awaits bytes now is too becomes) owes reads next other =
       one_before key old one later before (before ++ bytes) (ap (written_by key) is) (ap (λ (l : List ℕ). before ++ l) (sym (received_is key one.call bytes now is)))
@@ -243,7 +245,7 @@ module _ {D : Type 0} (model : DiskModel D) (laws : OwnLaws) where
 
   turned_away : (now : ℕ) (client : ClientState) → IsTurnedAway now client → (client.session ≡ None) × (needs_none client.stage ≡ true)
   turned_away now client (inl is) = (ap (λ (one : ClientState). one.session) is, ap (λ (one : ClientState). needs_none one.stage) is)
-  turned_away now client (inr is) = (ap (λ (one : ClientState). one.session) is, ap (λ (one : ClientState). needs_none one.stage) is)
+  turned_away now client (inr (lacks, is)) = (ap (λ (one : ClientState). one.session) is, ap (λ (one : ClientState). needs_none one.stage) is)
 
   pub served : (old : Station D) (accepted : After D) (later : List (After D)) (machine : HubState) (key now id : ℕ) (client : ClientState)
       → Shows model old.live.hub machine → AreApart machine old.clients.slots → accepted.call ≡ Accepted now (Ok key)

@@ -4,7 +4,7 @@ use Rattle.std.specs.Prelude.{nat_eq}
 use Rattle.std.proofs.lemmas.Bool.{cond-true}
 use Rattle.std.proofs.lemmas.Bool.Decides.{eqb_tells, leb_tells}
 use Rattle.disk_model.specs.declared.disk.Disk.{Ghosts as DiskModel}
-use Rattle.serve_clients.specs.Client.{ClientState, HasWritten, given as given_to, moved_if, with_line, with_stage}
+use Rattle.serve_clients.specs.Client.{ClientState, HasLast, HasWritten, given as given_to, moved_if, with_line, with_stage}
 use Rattle.serve_clients.specs.Clients.{told_by, unread_by, unwritten_by}
 use Rattle.serve_clients.specs.Line.{taken_off}
 use Rattle.serve_clients.specs.declared.client.Stage.{Stage}
@@ -24,7 +24,7 @@ use Rattle.station_hub.specs.Tracking.{TracksOn}
 use Rattle.serve_hub.specs.Parts.{HubParts}
 use Rattle.serve_sources.specs.declared.answers.TheConstants.{FULL}
 use Rattle.serve_sources.specs.declared.password.Password.{Password}
-use Rattle.station.specs.Asked.{EndsSession, HasLast, IsAnswered, IsAsked, Joins, heard, moved}
+use Rattle.station.specs.Asked.{EndsSession, IsAnswered, IsAsked, Joins, heard, moved}
 use Rattle.station.specs.Spare.{IsAskedIn, is_spare}
 use Rattle.station_laws.specs.Calling.{Accepted, Aside, Call, Closed, EndedOpen, HasGiven, HasReceived, IsAccepted, IsCall, IsClosed, Looked, Next, NextTurn, PeerEnded, ReadFailed, Received, Stepped, Turned, Woken, WriteFailed, Wrote}
 use Rattle.station.specs.Ending.{is_over}
@@ -59,7 +59,7 @@ moved_stays (suc count) now client = inl (like client)
 pub written_session : (bytes : List ℕ) (count : ℕ) (old new : ClientState) → HasWritten bytes count old new → new.session ≡ old.session
 written_session bytes count old new (inl again) = ap (λ (one : ClientState). one.session) again.1
 written_session bytes count old new (inr (none, inl anew)) = ap (λ (one : ClientState). one.session) anew
-written_session bytes count old new (inr (none, inr short)) = ap (λ (one : ClientState). one.session) short
+written_session bytes count old new (inr (none, inr (lacks, short))) = ap (λ (one : ClientState). one.session) short
 
 stage_kind : (stage : Stage) → (stage ≡ Sending) ⊎ ((stage ≡ Hearing) ⊎ ((stage ≢ Sending) × (stage ≢ Hearing)))
 stage_kind Sending = inl refl
@@ -131,13 +131,13 @@ half_closed_stays client = half_closed_in client.stage client refl
 
 listens_session : (head : Bool) (old new : ClientState) → Listens head old new → (new.session ≡ old.session) × (needs_none new.stage ≡ true)
 listens_session true old new (inl is) = (ap (λ (one : ClientState). one.session) is, ap (λ (one : ClientState). needs_none one.stage) is)
-listens_session true old new (inr is) = (ap (λ (one : ClientState). one.session) is, ap (λ (one : ClientState). needs_none one.stage) is)
+listens_session true old new (inr (lacks, is)) = (ap (λ (one : ClientState). one.session) is, ap (λ (one : ClientState). needs_none one.stage) is)
 listens_session false old new (inl (listener, is)) = (ap (λ (one : ClientState). one.session) is, ap (λ (one : ClientState). needs_none one.stage) is)
 listens_session false old new (inr is) = (ap (λ (one : ClientState). one.session) is, ap (λ (one : ClientState). needs_none one.stage) is)
 
 pub last_session : (text : List ℕ) (old new : ClientState) → HasLast text old new → (new.session ≡ old.session) × (needs_none new.stage ≡ true)
 last_session text old new (inl is) = (ap (λ (one : ClientState). one.session) is, ap (λ (one : ClientState). needs_none one.stage) is)
-last_session text old new (inr is) = (ap (λ (one : ClientState). one.session) is, ap (λ (one : ClientState). needs_none one.stage) is)
+last_session text old new (inr (lacks, is)) = (ap (λ (one : ClientState). one.session) is, ap (λ (one : ClientState). needs_none one.stage) is)
 
 pub answered_session : (resource : OwnResource) (head : Bool) (old new : ClientState) → IsAnswered resource head old new
     → (new.session ≡ old.session) × (needs_none new.stage ≡ true)
@@ -155,14 +155,14 @@ module _ {D : Type 0} (model : DiskModel D) (laws : Laws) where
   -- what a head asks for is taken as that of any connection, or the connection is told that there are too many
   asked_any : (spare : Bool) (password : Option Password) (places : PlacesState) (bytes : List ℕ) (old new : HubParts D) (client after : ClientState)
       → IsAskedIn model spare password places bytes old new client after
-      → IsAsked model password places bytes old new client after ⊎ ((new ≡ old) × HasLast FULL.now (heard bytes client) after)
+      → IsAsked model password places bytes old new client after ⊎ ((new ≡ old) × ((room : ℕ) × HasLast FULL.now (heard room bytes client) after))
   asked_any false password places bytes old new client after asked = inl asked
   asked_any true password places bytes old new client after (same, inl awaits) = inl (inl (same, awaits))
   asked_any true password places bytes old new client after (same, inr (inl (source, set, goes))) = inl (inr (inl (same, source, set, goes)))
-  asked_any true password places bytes old new client after (same, inr (inr (inl (Status, head, own, answered)))) =
-      inl (inr (inr (inl (Status, head, own, (λ machine shows. subst (λ (hub : HubParts D). Shows model hub machine) (sym same) shows), answered, tt, tt))))
-  asked_any true password places bytes old new client after (same, inr (inr (inl (Live, head, own, last)))) = inr (same, last)
-  asked_any true password places bytes old new client after (same, inr (inr (inl (Player, head, own, last)))) = inr (same, last)
+  asked_any true password places bytes old new client after (same, inr (inr (inl (Status, head, room, own, answered)))) =
+      inl (inr (inr (inl (Status, head, room, own, (λ machine shows. subst (λ (hub : HubParts D). Shows model hub machine) (sym same) shows), answered, tt, tt))))
+  asked_any true password places bytes old new client after (same, inr (inr (inl (Live, head, room, own, last)))) = inr (same, (room, last))
+  asked_any true password places bytes old new client after (same, inr (inr (inl (Player, head, room, own, last)))) = inr (same, (room, last))
   asked_any true password places bytes old new client after (same, inr (inr (inr (cause, last)))) = inr (same, last)
 
   received_own : (key other : ℕ) (bytes : List ℕ) (now : ℕ) (old new : Station D) (before : HubState) (client : ClientState)
@@ -175,31 +175,31 @@ module _ {D : Type 0} (model : DiskModel D) (laws : Laws) where
         | inl asks ↦
             let (after, left, asked_in) = is.asks client found asks in
             elim (asked_any (is_spare other old.spare.items) old.options.password old.live.places bytes old.live.hub new.live.hub client after asked_in) [
-              | inr (same, last) ↦
-                  keyed_quiet model key other call old new before client after is.others found left same is.recorded.1 (last_session FULL.now (heard bytes client) after last).0 shown are aside
-                  (Declined bytes now refl asks last)
+              | inr (same, (room, last)) ↦
+                  keyed_quiet model key other call old new before client after is.others found left same is.recorded.1 (last_session FULL.now (heard room bytes client) after last).0 shown are aside
+                  (Declined bytes now refl asks (room, last))
               | inl asked ↦ elim asked [
                 | inl (same, inl (may, becomes)) ↦
                     keyed_quiet model key other call old new before client after is.others found left same is.recorded.1 (ap (λ (one : ClientState). one.session) becomes) shown are aside
                     (Awaited bytes now refl asks becomes)
-                | inl (same, inr becomes) ↦
+                | inl (same, inr (lacks, becomes)) ↦
                     keyed_quiet model key other call old new before client after is.others found left same is.recorded.1 (ap (λ (one : ClientState). one.session) becomes) shown are aside
                     (WasCut (ap (λ (one : ClientState). one.stage) becomes) (ap (λ (one : ClientState). one.session) becomes) (ap (λ (one : ClientState). one.unsent) becomes) refl (λ given. refl))
                 | inr (inl (same, source, some, goes)) ↦
                     keyed_quiet model key other call old new before client after is.others found left same is.recorded.1 goes.1 shown are aside
                     (Offered bytes now refl asks source goes.1 (offered_needs_none after.stage goes.0))
-                | inr (inr (inl (resource, head, own, keeps, answered, joins, cause))) ↦
-                    let (session, none) = answered_session resource head (heard bytes client) after answered in
+                | inr (inr (inl (resource, head, room, own, keeps, answered, joins, cause))) ↦
+                    let (session, none) = answered_session resource head (heard room bytes client) after answered in
                     keyed model key other call old new before before None client after is.others found left (keeps before shown)
                     (tracks_same before before old.live.places new.live.places refl is.recorded.1) (leaves_all None before)
                     (λ id e. absurd (no_session id e)) are
                     (still_apart None before before old.clients.slots new.clients.slots are (leaves_all None before)
                     (had model old.clients.slots new.clients.slots other is.others (had_own model old.clients.slots new.clients.slots other client after found left session)))
-                    aside (Answered bytes now resource head refl asks own answered (joins_here resource head after joins) refl)
-                | inr (inr (inr (why, inr (none, same, becomes)))) ↦
+                    aside (Answered bytes now resource head refl asks own (room, answered) (joins_here resource head after joins) refl)
+                | inr (inr (inr (why, (room, inr (none, same, becomes))))) ↦
                     keyed_quiet model key other call old new before client after is.others found left same is.recorded.1 (ap (λ (one : ClientState). one.session) becomes) shown are aside
                     (WasCut (ap (λ (one : ClientState). one.stage) becomes) (ap (λ (one : ClientState). one.session) becomes) (ap (λ (one : ClientState). one.unsent) becomes) refl (λ given. refl))
-                | inr (inr (inr (why, inl connected))) ↦
+                | inr (inr (inr (why, (room, inl connected)))) ↦
                     let id = connected.id in
                     let (between, shows_between, connects) = connected.connects before shown in
                     let (machine, shows_machine, receives) = connected.receives between shows_between in
@@ -217,7 +217,9 @@ module _ {D : Type 0} (model : DiskModel D) (laws : Laws) where
                     (one_more_apart (Some id) before machine old.clients.slots new.clients.slots other are leaves more
                     (ap session_in left ∙ ap (λ (one : ClientState). one.session) connected.client ∙ ap Some number)
                     (λ one number apart of. sym (ap session_in (is.others one apart)) ∙ of))
-                    aside (Connected bytes now id connected.progress between refl asks connects receives connected.client)
+                    aside (Connected bytes now id connected.progress between refl asks connects receives (connected.client
+                    ∙ ap (λ n. record (heard n bytes client) { stage = stage_after connected.progress; session = Some id; head = [] })
+                    (sym (ap (λ (one : ClientState). one.head_room) connected.client))))
               ]
             ]
         | inr (inl reads) ↦ elim (of_session client.session) [
@@ -365,7 +367,7 @@ module _ {D : Type 0} (model : DiskModel D) (laws : Laws) where
     where
       away : (client : ClientState) → IsTurnedAway now client → client.session ≡ None
       away client (inl told) = ap (λ (one : ClientState). one.session) told
-      away client (inr short) = ap (λ (one : ClientState). one.session) short
+      away client (inr (lacks, short)) = ap (λ (one : ClientState). one.session) short
 
       none : ℕ → session_in (get new.clients.slots other) ≡ None
       none most = elim (leb_tells old.options.most (slab_len old.clients.slots)) [

@@ -2,7 +2,7 @@
 use Rattle.std.proofs.Common.{◌≡◌, ◌⊎◌, ℕ, Bool, true, false, Option, Some, None, Ok, List, [], ◌∷◌, ◌++◌, refl, sym, ◌∙◌, ap, subst, inl, inr, append-nil}
 use Rattle.std.proofs.lemmas.Bool.Decides.{leb_tells}
 use Rattle.disk_model.specs.declared.disk.Disk.{Ghosts as DiskModel}
-use Rattle.serve_clients.specs.Client.{ClientState, fresh, told, with_stage}
+use Rattle.serve_clients.specs.Client.{ClientState, HasLast, fresh, told, with_stage}
 use Rattle.serve_clients.specs.declared.client.Stage.{Stage}
 use Rattle.serve_clients.specs.declared.client.Stage.TheVariants.{Ending, Hearing, Cut}
 use Rattle.serve_hub.specs.Listening.{waiting_at}
@@ -26,7 +26,7 @@ use Rattle.station_hub.specs.Asking.{Listens, headless}
 use Rattle.station_hub.specs.LiveLaws.{tracks_then}
 use Rattle.station_hub.specs.Places.{PlacesState}
 use Rattle.station_hub.specs.Tracking.{IsJoinMoment, IsMomentAt, JoinsAt, TracksOn}
-use Rattle.station.specs.Asked.{HasLast, IsAnswered, heard}
+use Rattle.station.specs.Asked.{IsAnswered, heard}
 use Rattle.station_laws.specs.Calling.{Accepted, After, AreCalls, Call, IsAccepted, IsCall, Received, left_by}
 use Rattle.station_laws.specs.Serving.{AsksOwn, AsksSource, AtCall, HasHeardOf, IsServed, IsTextOf}
 use Rattle.station.specs.Turning.{IsTurnedAway}
@@ -112,7 +112,7 @@ module _ {D : Type 0} (model : DiskModel D) (laws : OwnLaws)
   -- ---- an answer of the station's own
   answer : (key : ℕ) (old : Station D) (one : After D) (later : List (After D)) (after : HubState) (client new : ClientState) (given before bytes text : List ℕ) (now : ℕ)
       (resource : OwnResource) (head : Bool) → one.call ≡ Received key bytes now → IsOwn resource head (before ++ bytes) → IsTextOf resource head text
-      → client.unsent ≡ [] → (new ≡ with_stage Ending (told text client)) ⊎ ((new.stage ≡ Cut) × (new.unsent ≡ client.unsent)) → given_after key given one.call ≡ []
+      → client.unsent ≡ [] → (new ≡ with_stage Ending (told new.room text client)) ⊎ ((new.stage ≡ Cut) × (new.unsent ≡ client.unsent)) → given_after key given one.call ≡ []
       → OwesLater model laws key later after new (given_after key given one.call) → IsServed model first begun key old (one ∷ later) before
   answer key old one later after client new given before bytes text now resource head is own is_text none (inr (cuts, unsent)) kept_none owes =
       embed key old (one ∷ later) before
@@ -131,13 +131,13 @@ module _ {D : Type 0} (model : DiskModel D) (laws : OwnLaws)
         front = also_written key one later text left (ap (written_by key) is) front;
       })))
 
-  last : (text : List ℕ) (old new : ClientState) → HasLast text old new → (new ≡ with_stage Ending (told text old)) ⊎ ((new.stage ≡ Cut) × (new.unsent ≡ old.unsent))
+  last : (text : List ℕ) (old new : ClientState) → HasLast text old new → (new ≡ with_stage Ending (told new.room text old)) ⊎ ((new.stage ≡ Cut) × (new.unsent ≡ old.unsent))
   last text old new (inl is) = inl is
-  last text old new (inr is) = inr (ap (λ (c : ClientState). c.stage) is, ap (λ (c : ClientState). c.unsent) is)
+  last text old new (inr (lacks, is)) = inr (ap (λ (c : ClientState). c.stage) is, ap (λ (c : ClientState). c.unsent) is)
 
   -- ---- a listener
   joined : (machine : HubState) (client new : ClientState) (places : PlacesState) (listener : ListenerState) → client.unsent ≡ []
-      → new ≡ record (told LIVE.now (headless client)) { stage = Hearing; listener = Some listener } → JoinsAt (place_to_join places.boundaries) machine.committed listener
+      → new ≡ record (told new.room LIVE.now (headless client)) { stage = Hearing; listener = Some listener } → JoinsAt (place_to_join places.boundaries) machine.committed listener
       → (moment : Moment) × IsJoinMoment places machine.committed moment × HearsOn LIVE.now moment machine new [] []
   joined machine client new places listener none becomes joins = by (place_to_join places.boundaries) joins
     where
@@ -219,7 +219,7 @@ module _ {D : Type 0} (model : DiskModel D) (laws : OwnLaws)
 
   -- it is told that there are too many
   declined : (key : ℕ) (old : Station D) (one : After D) (later : List (After D)) (after : HubState) (client new : ClientState) (given before : List ℕ)
-      → written_by key one.call ≡ [] → client.unsent ≡ [] → (new ≡ with_stage Ending (told FULL.now client)) ⊎ ((new.stage ≡ Cut) × (new.unsent ≡ client.unsent))
+      → written_by key one.call ≡ [] → client.unsent ≡ [] → (new ≡ with_stage Ending (told new.room FULL.now client)) ⊎ ((new.stage ≡ Cut) × (new.unsent ≡ client.unsent))
       → given_after key given one.call ≡ [] → OwesLater model laws key later after new (given_after key given one.call) → IsAnyhow key old (one ∷ later) before
   declined key old one later after client new given before unwritten none (inr (cuts, unsent)) kept_none owes =
       inl (embed key old (one ∷ later) before
@@ -250,10 +250,12 @@ module _ {D : Type 0} (model : DiskModel D) (laws : OwnLaws)
         source = ap (λ (l : List ℕ). is_source_head (l ++ bytes)) (sym head) ∙ source;
       }))))))
   step key old one later machine after client new given before shown tracks apart found nothing (asks, none, unsent, head_is) (Replies bytes now resource head is too own answered joins stays) owes reads next hears =
-      inl (replies resource head key old one later machine after (heard bytes client) new given before bytes now is
-      (subst (λ (l : List ℕ). IsOwn resource head (l ++ bytes)) head_is own) answered joins stays unsent shown tracks (ap (given_after key given) is ∙ nothing) owes hears)
+      let (room, replied) = answered in
+      inl (replies resource head key old one later machine after (heard room bytes client) new given before bytes now is
+      (subst (λ (l : List ℕ). IsOwn resource head (l ++ bytes)) head_is own) replied joins stays unsent shown tracks (ap (given_after key given) is ∙ nothing) owes hears)
   step key old one later machine after client new given before shown tracks apart found nothing (asks, none, unsent, head) (Declines bytes now is too saying) owes reads next hears =
-      declined key old one later after (heard bytes client) new given before (ap (written_by key) is) unsent (last FULL.now (heard bytes client) new saying)
+      let (room, says) = saying in
+      declined key old one later after (heard room bytes client) new given before (ap (written_by key) is) unsent (last FULL.now (heard room bytes client) new says)
       (ap (given_after key given) is ∙ nothing) owes
   step key old one later machine after client new given before shown tracks apart found nothing (asks, none, unsent, head) (Awaits bytes now is too becomes) owes reads next hears =
       one_more_anyhow key old one later before (before ++ bytes) (ap (written_by key) is) (ap (λ (l : List ℕ). before ++ l) (sym (received_is model laws key one.call bytes now is)))
@@ -320,7 +322,7 @@ module _ {D : Type 0} (model : DiskModel D) (laws : OwnLaws)
       turned_away after one shows still stands (inl told_it) =
           inr (owed_all model laws key later accepted.after after one [] FULL.now are.1 tells shows still stands
           (owes_text after one FULL.now (ap (λ (c : ClientState). c.stage) told_it) (ap (λ (c : ClientState). c.unsent) told_it)))
-      turned_away after one shows still stands (inr cuts) =
+      turned_away after one shows still stands (inr (lacks, cuts)) =
           let (left, front) = owed_all model laws key later accepted.after after one [] [] are.1 tells shows still stands
           (owes_nothing after one (ap (λ (c : ClientState). c.stage) cuts) (ap (λ (c : ClientState). c.unsent) cuts)) in
           inl (inl (nothing_left (written key later) left front))

@@ -1,7 +1,7 @@
 -- The calls of a station, and what each leaves of it. Ours.
 use Rattle.std.specs.Prelude.{◌≡◌, ◌≢◌, ◌⊎◌, ◌≤◌, ◌<◌, ◌-◌, ⊤, ℕ, Bool, true, false, Option, Some, None, Result, Ok, Err, List, [], ◌∷◌}
 use Rattle.disk_model.specs.declared.disk.Disk.{Ghosts as DiskModel}
-use Rattle.serve_clients.specs.Client.{ClientState, HasWritten, after_of, fresh, given, moved_if, with_line, with_stage}
+use Rattle.serve_clients.specs.Client.{ClientState, HasLast, HasWritten, after_of, fresh, given, moved_if, with_line, with_stage}
 use Rattle.serve_clients.specs.Clients.{AllStay, AreLookedAt, HasTurn, OthersStay, told_by, unread_by, unwritten_by}
 use Rattle.serve_clients.specs.Line.{moved_on, taken_off}
 use Rattle.serve_clients.specs.Patience.{is_refused}
@@ -19,7 +19,7 @@ use Rattle.slab.specs.Slab.{get, slab_len}
 use Rattle.station_hub.specs.Asking.{stage_after}
 use Rattle.station_hub.specs.Giving.{Gives}
 use Rattle.station_hub.specs.Live.{RecordsLive, StaysLive}
-use Rattle.station.specs.Asked.{EndsSession, HasLast}
+use Rattle.station.specs.Asked.{EndsSession}
 use Rattle.station.specs.Spare.{IsAskedIn, is_spare}
 use Rattle.station.specs.Ending.{is_over}
 use Rattle.station.specs.Kept.{AreKept}

@@ -1,13 +1,13 @@
 use Rattle.std.proofs.Common.{rules, ◌≡◌, ◌++◌, ◌∙◌, ℕ, Bool, true, List, refl, sym, ap, subst, inl}
-use Rattle.serve_clients.specs.Client.{ClientState}
+use Rattle.serve_clients.specs.Client.{ClientState, with_more}
 use Rattle.serve_sources.specs.Asking.{IsOther, IsOwn, MayCome, is_source}
 use Rattle.serve_sources.specs.declared.asking.Asks.{Asks}
 use Rattle.serve_sources.specs.declared.asking.Asks.TheVariants as Asked
 use Rattle.serve_sources.specs.declared.own.OwnResource.{OwnResource}
-use Rattle.station_hub.specs.Asking.{HasAsked, with_head}
+use Rattle.station_hub.specs.Asking.{HasAsked}
 use Rattle.station_hub.proofs.asking.ask.Goals as goal
 
-asks_for : (asks : Asks) (front bytes : List ℕ) (old new : ClientState) → front ≡ old.head ++ bytes → new ≡ with_head bytes old
+asks_for : (asks : Asks) (front bytes : List ℕ) (old new : ClientState) → front ≡ old.head ++ bytes → new ≡ with_more new.head_room bytes old
     → (asks ≡ Asked.More → MayCome front) → (asks ≡ Asked.Source → is_source front ≡ true)
     → ((resource : OwnResource) (head : Bool) → asks ≡ Asked.Own resource head → IsOwn resource head front)
     → (asks ≡ Asked.File → IsOther front) → HasAsked asks bytes old new

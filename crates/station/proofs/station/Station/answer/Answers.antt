@@ -1,10 +1,10 @@
 use Rattle.std.proofs.Common.{◌≡◌, Bool, true, false, Some, sym, ◌∙◌, ap, subst}
-use Rattle.serve_clients.specs.Client.{ClientState}
+use Rattle.serve_clients.specs.Client.{ClientState, HasLast}
 use Rattle.serve_sources.specs.declared.own.OwnResource.{OwnResource}
 use Rattle.serve_sources.specs.declared.own.OwnResource.TheVariants.{Live}
 use Rattle.serve_texts.specs.Player.{player_response}
-use Rattle.station_hub.specs.Asking.{Listens}
-use Rattle.station.specs.Asked.{HasCause, HasLast, IsAnswered, Joins}
+use Rattle.station_hub.specs.Asking.{IsCutFor, Listens}
+use Rattle.station.specs.Asked.{HasCause, IsAnswered, Joins}
 use Rattle.station.specs.Found.{placed, same_client}
 use Rattle.station.proofs.station.Station.answer.Goals as goal
 
@@ -17,7 +17,8 @@ returns-in-Live-clause-answers g c client is =
       subst (λ (resource : OwnResource). IsAnswered resource c.args.head client new) (sym c.in-Live.is)
           (subst (λ (one : ClientState). Listens c.args.head one new) same c.listen.ensures.becomes),
       subst (λ (resource : OwnResource). Joins g.D.Disk resource c.args.head c.args.self.now.live.places c.args.self.now.live.hub new) (sym c.in-Live.is) (joins c.args.head),
-      subst (λ (resource : OwnResource). HasCause g.D.Disk resource c.args.self.now.live.places c.args.self.now.live.hub c.listen.new.self.hub new) (sym c.in-Live.is) c.listen.ensures.cause,
+      subst (λ (resource : OwnResource). HasCause g.D.Disk resource c.args.self.now.live.places c.args.self.now.live.hub c.listen.new.self.hub client new) (sym c.in-Live.is)
+          (subst (λ (one : ClientState). IsCutFor g.D.Disk c.args.self.now.live.places c.args.self.now.live.hub c.listen.new.self.hub one new) same c.listen.ensures.cause),
     )
   where
     joins : (head : Bool) → Joins g.D.Disk Live head c.args.self.now.live.places c.args.self.now.live.hub c.listen.new.client
@@ -33,7 +34,7 @@ returns-in-Player-clause-answers g c client is =
       subst (λ (resource : OwnResource). IsAnswered resource c.args.head client new) (sym c.in-Player.is)
           (subst (λ (one : ClientState). HasLast (player_response c.args.head) one new) same c.tell_player.ensures),
       subst (λ (resource : OwnResource). Joins g.D.Disk resource c.args.head c.args.self.now.live.places c.args.self.now.live.hub new) (sym c.in-Player.is) tt,
-      subst (λ (resource : OwnResource). HasCause g.D.Disk resource c.args.self.now.live.places c.args.self.now.live.hub c.args.self.now.live.hub new) (sym c.in-Player.is) tt,
+      subst (λ (resource : OwnResource). HasCause g.D.Disk resource c.args.self.now.live.places c.args.self.now.live.hub c.args.self.now.live.hub client new) (sym c.in-Player.is) tt,
     )
 
 pub returns-in-Status-clause-answers : goal.returns-in-Status-clause-answers
@@ -45,5 +46,5 @@ returns-in-Status-clause-answers g c client is =
       left,
       subst (λ (resource : OwnResource). IsAnswered resource c.args.head client after) (sym c.in-Status.is) answered,
       subst (λ (resource : OwnResource). Joins g.D.Disk resource c.args.head c.args.self.now.live.places c.args.self.now.live.hub after) (sym c.in-Status.is) tt,
-      subst (λ (resource : OwnResource). HasCause g.D.Disk resource c.args.self.now.live.places c.args.self.now.live.hub c.tell_numbers.new.self.live.hub after) (sym c.in-Status.is) tt,
+      subst (λ (resource : OwnResource). HasCause g.D.Disk resource c.args.self.now.live.places c.args.self.now.live.hub c.tell_numbers.new.self.live.hub client after) (sym c.in-Status.is) tt,
     )

@@ -156,11 +156,9 @@ returns-in-Source-clause-others g c other apart = c.offer.ensures.others other a
 pub returns-in-More-clause-sourced : goal.returns-in-More-clause-sourced
 returns-in-More-clause-sourced g c client is source set =
     let same : c.in-Some.client.now ≡ client = same_client c.in-Some.client.now client (c.in-Some.ensures.value ∙ is) in
-    let new = c.ask.new.client in (
-      new,
-      placed c.args.self.now.clients.slots c.args.key client new is,
-      inl (refl, more_of_source c.args.bytes.now client c.notice.new.client new (c.notice.ensures ∙ ap moved same) source c.in-More.ensures.source),
-    )
+    let new = c.ask.new.client in
+    let (lacks, cuts) = more_of_source c.args.bytes.now client c.notice.new.client new (c.notice.ensures ∙ ap moved same) source c.in-More.ensures.source in
+    (new, placed c.args.self.now.clients.slots c.args.key client new is, inl (refl, lacks, cuts))
 
 pub returns-in-Source-clause-sourced : goal.returns-in-Source-clause-sourced
 returns-in-Source-clause-sourced g c client is source set =

@@ -1,6 +1,6 @@
 use Rattle.std.proofs.Common.{◌≡◌, ℕ, Some, List, ◌++◌, refl, sym, ◌∙◌, ap, subst, inl, inr}
 use Rattle.slab.specs.Slab.{get}
-use Rattle.serve_clients.specs.Client.{ClientState, cut, memory_refused}
+use Rattle.serve_clients.specs.Client.{ClientState, LacksHeadRoom, cut, memory_refused, with_more}
 use Rattle.serve_sources.specs.Asking.{HasHead}
 use Rattle.serve_sources.specs.Offer.{IsUnread}
 use Rattle.serve_sources.specs.declared.offer.Offer.TheVariants.{More}
@@ -10,7 +10,7 @@ use Rattle.station.specs.Passing.{is_source}
 use Rattle.station.proofs.Results.{err_of, none_if, ok_of}
 use Rattle.station.proofs.Asked.{begins_none}
 use Rattle.station.specs.Found.{placed, same_client}
-use Rattle.station.specs.Offering.{ComesOf, IsUnauthorized, Leads, with_more}
+use Rattle.station.specs.Offering.{ComesOf, IsUnauthorized, Leads}
 use Rattle.station.specs.Succeeding.{WasOffered, is_waiting}
 use Rattle.station.proofs.Offered.{leads_begins, leads_feeder, leads_keeps, leads_offered, leads_on, leads_refused, offers_self, others_placed, was_placed}
 use Rattle.station.proofs.Passed.{offered_to}
@@ -99,7 +99,7 @@ led : (g : Over) (c : goal.After-take_up g) → (after : ClientState) × (get c.
 led g c =
     c.take_up.ensures.leads c.hear.new.self (placed c.args.self.now.clients.slots c.args.key c.in-Some.client.now c.hear.new.self (sym c.in-Some.ensures.value))
 
-heard_more : (g : Over) (c : goal.After-take_up g) → c.hear.new.self ≡ with_more c.args.bytes.now c.in-Some.client.now
+heard_more : (g : Over) (c : goal.After-take_up g) → c.hear.new.self ≡ with_more c.hear.new.self.head_room c.args.bytes.now c.in-Some.client.now
 heard_more g c = ok_of _ c.hear.result c.is_err.result c.is_err.ensures.value c.if-is_err.false c.hear.ensures.ok
 
 -- all that has come of the head was looked at
@@ -113,13 +113,15 @@ pub returns-clause-leads : goal.returns-clause-leads
 returns-clause-leads g c client is =
     let old = c.args.self.now in
     let same : c.in-Some.client.now ≡ client = same_client c.in-Some.client.now client (c.in-Some.ensures.value ∙ is) in
-    let more : c.hear.new.self ≡ with_more c.args.bytes.now client = heard_more g c ∙ ap (with_more c.args.bytes.now) same in
+    let room : ℕ = c.hear.new.self.head_room in
+    let more : c.hear.new.self ≡ with_more room c.args.bytes.now client = heard_more g c ∙ ap (with_more room c.args.bytes.now) same in
     let (after, left, leads) = led g c in (
       after,
       left,
       inr (inr (
         c.in-Some-password.password,
         c.offered-offer.result,
+        room,
         c.in-Some-password.is,
         subst (λ (front : List ℕ). ComesOf c.in-Some-password.password front c.offered-offer.result) (front_is g c ∙ ap (λ (one : ClientState). one.head) more) c.offered-offer.ensures.comes,
         subst (λ (one : ClientState). Leads c.args.key c.args.now old.options.skeletons (serials_in old.live.hub.file) c.offered-offer.result old.air c.take_up.new.self.air one after) more leads,
@@ -177,7 +179,11 @@ returns-then-is_err-clause-leads g c client is =
     let refused = err_of _ c.hear.result c.is_err.result c.is_err.ensures.value c.if-is_err.true c.hear.ensures.err in (
       c.go_to.new.self,
       placed c.args.self.now.clients.slots c.args.key client c.go_to.new.self is,
-      inl (refl, c.go_to.ensures ∙ ap cut (refused ∙ ap memory_refused same)),
+      inl (
+        refl,
+        subst (LacksHeadRoom c.args.bytes.now) same (err_of _ c.hear.result c.is_err.result c.is_err.ensures.value c.if-is_err.true c.hear.ensures.full),
+        c.go_to.ensures ∙ ap cut (refused ∙ ap memory_refused same),
+      ),
     )
 
 pub returns-in_default-password-clause-leads : goal.returns-in_default-password-clause-leads
@@ -187,5 +193,10 @@ returns-in_default-password-clause-leads g c client is =
     let new = c.go_to-in_default-password.new.self in (
       new,
       placed c.args.self.now.clients.slots c.args.key client new is,
-      inr (inl (refl, none_if c.args.self.now.options.password c.in_default-password.not-Some, c.go_to-in_default-password.ensures ∙ ap cut (more ∙ ap (with_more c.args.bytes.now) same))),
+      inr (inl (
+        refl,
+        none_if c.args.self.now.options.password c.in_default-password.not-Some,
+        c.go_to-in_default-password.ensures ∙ ap cut (more ∙ ap (with_more c.hear.new.self.head_room c.args.bytes.now) same)
+            ∙ ap (λ room. cut (with_more room c.args.bytes.now client)) (sym (ap (λ (one : ClientState). one.head_room) c.go_to-in_default-password.ensures)),
+      )),
     )

@@ -1,8 +1,8 @@
 use denote.Enum.Bare.{sameb}
 use Rattle.serve_clients.specs.contracts.client.Stage.{the_type}
 use Rattle.serve_clients.specs.declared.client.Stage.{Stage}
-use Rattle.std.proofs.Common.{◌≡◌, ◌⊎◌, ℕ, false, not, List, Option, refl, sym, ◌∙◌, ap, subst, inl, inr}
-use Rattle.serve_clients.specs.Client.{ClientState, cut_for_memory, told, with_stage}
+use Rattle.std.proofs.Common.{◌≡◌, ℕ, false, not, List, Option, refl, sym, ◌∙◌, ap, subst, inl, inr}
+use Rattle.serve_clients.specs.Client.{ClientState, HasLast, with_stage}
 use Rattle.serve_clients.specs.declared.client.Stage.TheVariants.{Asking, Offering, Waiting, Feeding, Reading, Sending, Hearing, Ending, Closing, Cut}
 use Rattle.serve_sources.specs.declared.outcome.Outcome.{Outcome}
 use Rattle.station.specs.Parting.{HasParted}
@@ -19,8 +19,8 @@ returns-in-Some-answer-clause-parts g c client is feeding =
       new,
       placed c.args.self.now.clients.slots c.args.key client new is,
       subst (λ (answer : Option Outcome). HasParted answer client new) (sym c.in-Some-answer.is)
-          (subst (λ (text : List ℕ). (new ≡ with_stage Ending (told text client)) ⊎ (new ≡ cut_for_memory client)) c.answer.ensures
-          (subst (λ (one : ClientState). (new ≡ with_stage Ending (told c.answer.result.now one)) ⊎ (new ≡ cut_for_memory one)) same c.tell_last.ensures)),
+          (subst (λ (text : List ℕ). HasLast text client new) c.answer.ensures
+          (subst (λ (one : ClientState). HasLast c.answer.result.now one new) same c.tell_last.ensures)),
     )
 
 pub returns-in-None-clause-parts : goal.returns-in-None-clause-parts
@@ -55,7 +55,7 @@ returns-in-Some-answer-clause-left g c =
       feeds,
       c.args.answer,
       subst (λ (answer : Option Outcome). HasParted answer old new) (sym c.in-Some-answer.is)
-          (subst (λ (text : List ℕ). (new ≡ with_stage Ending (told text old)) ⊎ (new ≡ cut_for_memory old)) c.answer.ensures c.tell_last.ensures),
+          (subst (λ (text : List ℕ). HasLast text old new) c.answer.ensures c.tell_last.ensures),
     ))
 
 pub returns-in-None-clause-left : goal.returns-in-None-clause-left
@@ -85,9 +85,9 @@ feeding_waits Ending e = refl
 feeding_waits Closing e = refl
 feeding_waits Cut e = refl
 
-last_waits : (text : List ℕ) (old new : ClientState) → (new ≡ with_stage Ending (told text old)) ⊎ (new ≡ cut_for_memory old) → is_waiting new.stage ≡ false
+last_waits : (text : List ℕ) (old new : ClientState) → HasLast text old new → is_waiting new.stage ≡ false
 last_waits text old new (inl is) = ap (λ (one : ClientState). is_waiting one.stage) is
-last_waits text old new (inr is) = ap (λ (one : ClientState). is_waiting one.stage) is
+last_waits text old new (inr (lacks, is)) = ap (λ (one : ClientState). is_waiting one.stage) is
 
 pub returns-in-Some-answer-clause-waits : goal.returns-in-Some-answer-clause-waits
 returns-in-Some-answer-clause-waits g c =

@@ -1,7 +1,6 @@
 use Rattle.std.proofs.Common.{◌≡◌, ◌∙◌, subst}
-use Rattle.serve_clients.specs.Client.{ClientState}
+use Rattle.serve_clients.specs.Client.{ClientState, HasLast}
 use Rattle.serve_texts.specs.Status.{status_response}
-use Rattle.station.specs.Asked.{HasLast}
 use Rattle.station.specs.Found.{placed, same_client}
 use Rattle.station.proofs.station.Station.tell_numbers.Goals as goal
 

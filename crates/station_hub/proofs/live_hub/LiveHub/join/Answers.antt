@@ -1,4 +1,4 @@
-use Rattle.std.proofs.Common.{◌≡◌, ◌≢◌, ◌⊎◌, Option, Some, Result, Ok, Err, IfOk, IfErr, [], refl, sym, ◌∙◌, subst, inl, inr}
+use Rattle.std.proofs.Common.{◌≡◌, ◌≢◌, ◌⊎◌, Option, Some, None, Result, Ok, Err, IfOk, IfErr, [], refl, sym, ◌∙◌, subst, inl, inr}
 use Rattle.serve_live.specs.Boundaries.{place_to_join}
 use Rattle.serve_live.specs.Hearing.{IsHearing}
 use Rattle.serve_live.specs.Listening.{ListenerState}
@@ -25,20 +25,24 @@ returns-in-Some-clause-joins g c start machine shows tracks =
     c.join.result (c.join.ensures.joins machine links moment shows are_links is_place)
 
 -- why nobody can join
-cause_of : {T : Type 0} (Lost : Type 0) (result : Result T HubFault) → (result ≡ Err NoFile → Lost) → (result ≡ Err Source → Lost)
-    → result ≢ Err NoSession → result ≢ Err SessionsFull → IfErr result (λ fault. (fault ≡ Memory) ⊎ Lost)
-cause_of Lost (Ok listener) none failed apart full = tt
-cause_of Lost (Err NoFile) none failed apart full = inr (none refl)
-cause_of Lost (Err Source) none failed apart full = inr (failed refl)
-cause_of Lost (Err Memory) none failed apart full = inl refl
-cause_of Lost (Err NoSession) none failed apart full = absurd (apart refl)
-cause_of Lost (Err SessionsFull) none failed apart full = absurd (full refl)
+cause_of : {T : Type 0} (Lost Place : Type 0) (result : Result T HubFault) → Place → (result ≡ Err NoFile → Lost) → (result ≡ Err Source → Lost)
+    → result ≢ Err NoSession → result ≢ Err SessionsFull → IfErr result (λ fault. ((fault ≡ Memory) × Place) ⊎ Lost)
+cause_of Lost Place (Ok listener) place none failed apart full = tt
+cause_of Lost Place (Err NoFile) place none failed apart full = inr (none refl)
+cause_of Lost Place (Err Source) place none failed apart full = inr (failed refl)
+cause_of Lost Place (Err Memory) place none failed apart full = inl (refl, place)
+cause_of Lost Place (Err NoSession) place none failed apart full = absurd (apart refl)
+cause_of Lost Place (Err SessionsFull) place none failed apart full = absurd (full refl)
+
+some_place : (place : JoinPlace) → Some place ≡ None → ⊥
+some_place place e = cc
 
 pub returns-in-Some-clause-cause : goal.returns-in-Some-clause-cause
 returns-in-Some-clause-cause g c =
     let places = c.args.self.now.places in
     let found : place_to_join places.boundaries ≡ Some c.in-Some.place = sym c.place.ensures ∙ c.in-Some.is in
-    cause_of (CannotHear g.D.Disk places c.args.self.now.hub c.join.new.self) c.join.result (λ e. inl (c.join.ensures.no_file.0 e))
+    cause_of (CannotHear g.D.Disk places c.args.self.now.hub c.join.new.self) (place_to_join places.boundaries ≢ None) c.join.result
+    (λ none. some_place c.in-Some.place (sym found ∙ none)) (λ e. inl (c.join.ensures.no_file.0 e))
     (λ e. inr (λ start machine shows tracks.
     let (links, are_links) = shows.linked machine.committed (inl refl) in
     let (moment, is_place) = c.listeners_join_committed_links.ensures.joins start machine places c.in-Some.place links tracks found are_links in

@@ -1,5 +1,6 @@
-use Rattle.std.proofs.Common.{◌≡◌, ◌⊎◌, true, Some, refl, sym, ◌∙◌, ap, inl, inr}
-use Rattle.serve_clients.specs.Client.{ClientState}
+use Rattle.std.proofs.Common.{◌≡◌, ◌⊎◌, true, Some, refl, sym, ◌∙◌, ap, subst, inl, inr}
+use Rattle.serve_clients.specs.Client.{ClientState, LacksRoom}
+use Rattle.serve_sources.specs.declared.answers.TheConstants.{LIVE}
 use Rattle.serve_clients.specs.declared.client.Stage.TheVariants.{Cut, Ending, Hearing}
 use Rattle.serve_machine.specs.declared.fault.HubFault.{HubFault}
 use Rattle.serve_machine.specs.declared.fault.HubFault.TheVariants.{NoSession, SessionsFull, Source, Memory, NoFile}
@@ -65,23 +66,26 @@ ending_cut e = cc
 hearing_cut : Hearing ≡ Cut → ⊥
 hearing_cut e = cc
 
-by_last : (Lost : Type 0) (last short new : ClientState) → (new ≡ last) ⊎ (new ≡ short) → last.stage ≡ Ending → short.refused ≡ true → new.stage ≡ Cut
-    → (new.refused ≡ true) ⊎ Lost
-by_last Lost last short new (inl is) ends noted cuts = absurd (ending_cut (sym ends ∙ sym (ap (λ (one : ClientState). one.stage) is) ∙ cuts))
-by_last Lost last short new (inr is) ends noted cuts = inl (ap (λ (one : ClientState). one.refused) is ∙ noted)
+by_last : (Lacks Room Other : Type 0) (last cut new : ClientState) → (Lacks → Room) → (new ≡ last) ⊎ (Lacks × (new ≡ cut)) → last.stage ≡ Ending
+    → new.stage ≡ Cut → Room ⊎ Other
+by_last Lacks Room Other last cut new short (inl is) ends cuts = absurd (ending_cut (sym ends ∙ sym (ap (λ (one : ClientState). one.stage) is) ∙ cuts))
+by_last Lacks Room Other last cut new short (inr (lacks, is)) ends cuts = inl (short lacks)
 
-by_fault : (Lost : Type 0) (fault : HubFault) (old new : ClientState) → (fault ≡ Memory) ⊎ Lost → new ≡ cut_after fault old → (new.refused ≡ true) ⊎ Lost
-by_fault Lost fault old new (inl is) becomes = inl (ap (λ (one : ClientState). one.refused) (becomes ∙ ap (λ (one : HubFault). cut_after one old) is))
-by_fault Lost fault old new (inr lost) becomes = inr lost
+by_fault : (Room Place Lost : Type 0) (fault : HubFault) (old new : ClientState) → ((fault ≡ Memory) × Place) ⊎ Lost → new ≡ cut_after fault old
+    → Room ⊎ (Place × (new.refused ≡ true)) ⊎ Lost
+by_fault Room Place Lost fault old new (inl (is, place)) becomes =
+    inr (inl (place, ap (λ (one : ClientState). one.refused) (becomes ∙ ap (λ (one : HubFault). cut_after one old) is)))
+by_fault Room Place Lost fault old new (inr lost) becomes = inr (inr lost)
 
 pub returns-then-head-clause-cause : goal.returns-then-head-clause-cause
-returns-then-head-clause-cause g c cuts = by_last _ _ _ c.tell_last.new.self c.tell_last.ensures refl refl cuts
+returns-then-head-clause-cause g c cuts =
+    by_last _ _ _ _ _ c.tell_last.new.self (λ lacks. subst (LacksRoom LIVE.now) c.client.view_is lacks) c.tell_last.ensures refl cuts
 
 pub returns-in-Err-clause-cause : goal.returns-in-Err-clause-cause
-returns-in-Err-clause-cause g c cuts = by_fault _ c.in-Err.fault _ c.cut_after.new.client c.in-Err.ensures.cause c.cut_after.ensures
+returns-in-Err-clause-cause g c cuts = by_fault _ _ _ c.in-Err.fault _ c.cut_after.new.client c.in-Err.ensures.cause c.cut_after.ensures
 
 pub returns-after-tell-clause-cause : goal.returns-after-tell-clause-cause
 returns-after-tell-clause-cause g c cuts = elim c.match-tell.branch [
   | in-Ok-tell w ↦ absurd (hearing_cut (sym w.client-is ∙ cuts))
-  | in-Err-tell w ↦ inl (ap (λ (one : ClientState). one.refused) c.client-in-Ok.view_is ∙ ap (λ (one : ClientState). one.refused) w.in-Err-tell.ensures.err)
+  | in-Err-tell w ↦ inl (subst (LacksRoom LIVE.now) c.client.view_is w.in-Err-tell.ensures.full)
 ]
