@@ -20,17 +20,18 @@ abbrev pub streams_in : Counts → Streams
 streams_in counts = record { links = counts.links; packets = counts.packets; mends = counts.mends; reopenings = counts.reopenings }
 
 -- How it is run; since when what waits has waited; what was committed when the file was last opened again; since when it comes
--- to its end; and what was counted of streams.
+-- to its end; when everybody was looked at; and what was counted of streams.
 pub record Clocks : Type 0 where
   pub options : Options
   pub waiting_since : ℕ
   pub reopened : Option ℕ
   pub ending : Option ℕ
+  pub looked : ℕ
   pub streams : Streams
 
 abbrev pub clocks_of : {D : Type 0} → Station D → Clocks
 clocks_of station =
-    record { options = station.options; waiting_since = station.waiting_since; reopened = station.reopened; ending = station.ending; streams = streams_in station.counts }
+    record { options = station.options; waiting_since = station.waiting_since; reopened = station.reopened; ending = station.ending; looked = station.looked; streams = streams_in station.counts }
 
 -- none of this is another
 abbrev pub KeepsClocks : {D : Type 0} → Station D → Station D → Type 0

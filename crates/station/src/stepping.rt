@@ -161,6 +161,8 @@ impl<D: Disk + Drop> Station<D> {
         // How it is run, and whether it comes to its end, stays; what was done is counted.
         ensures rest { (self.new.options ≡ self.old.options) × (self.new.ending ≡ self.old.ending)
             × (streams_in self.new.counts ≡ streams_in (with_done result self.old.counts)) }
+        // When everybody was looked at stays.
+        ensures looked { self.new.looked ≡ self.old.looked }
         // If more is committed, listeners are woken now, or it is remembered that they are to be.
         ensures wakes { (before after : HubState) → Shows D.Disk self.old.live.hub before → Shows D.Disk self.new.live.hub after
             → length before.committed ≢ length after.committed

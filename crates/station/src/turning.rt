@@ -12,7 +12,7 @@ ghost use Rattle.serve_clients.specs.declared.client.Stage.TheVariants.{Closing 
 ghost use Rattle.station_hub.specs.Patience.{until_due as until_commit};
 ghost use Rattle.serve_clients.specs.Kinds.{both, kinds_in};
 ghost use Rattle.station_sources.specs.Air.{feeder_in};
-ghost use Rattle.station.specs.Clocks.{KeepsClocks, ended_from};
+ghost use Rattle.station.specs.Clocks.{KeepsClocks, clocks_of, ended_from};
 ghost use Rattle.station.specs.Ending.{gathers, has_finished, is_over};
 ghost use Rattle.station.specs.Kept.{AreTurned};
 ghost use Rattle.station.specs.Passing.{IsLike};
@@ -218,7 +218,7 @@ impl<D: Disk + Drop> Station<D> {
             × (self.new.commits_a_second ≡ self.old.counts.commits - self.old.commits) }
         ensures live { self.new.live ≡ self.old.live }
         ensures air { self.new.air ≡ self.old.air }
-        ensures clocks { KeepsClocks self.old self.new }
+        ensures clocks { clocks_of self.new ≡ record (clocks_of self.old) { looked = self.new.looked } }
     {
         if now.saturating_sub(self.looked) < LOOKS {
             return false;
@@ -272,7 +272,7 @@ impl<D: Disk + Drop> Station<D> {
         ensures ending { self.new.ending ≡ ended_from self.old.ending now }
         ensures options { self.new.options ≡ self.old.options }
         ensures counts { self.new.counts ≡ self.old.counts }
-        ensures since { (self.new.waiting_since ≡ self.old.waiting_since) × (self.new.reopened ≡ self.old.reopened) }
+        ensures since { (self.new.waiting_since ≡ self.old.waiting_since) × (self.new.reopened ≡ self.old.reopened) × (self.new.looked ≡ self.old.looked) }
         ensures clients { self.new.clients ≡ self.old.clients }
         ensures live { self.new.live ≡ self.old.live }
     {

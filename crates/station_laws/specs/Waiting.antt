@@ -10,7 +10,7 @@ use Rattle.station.specs.Clocks.{KeepsClocks, clocks_of, ended_with_input, since
 use Rattle.station.specs.Stepping.{HasFlushed}
 use Rattle.station.specs.declared.station.Station.{Station}
 use Rattle.station.specs.declared.stepping.Done.TheVariants.{Flushed}
-use Rattle.station_laws.specs.Calling.{After, Aside, Call, EndedOpen, Stepped}
+use Rattle.station_laws.specs.Calling.{After, Aside, Call, EndedOpen, Looked, Stepped}
 
 module _ {D : Type 0} (model : DiskModel D) where
   -- what waited was committed, or couldn't be, as the recorder answers a flush
@@ -37,6 +37,7 @@ module _ {D : Type 0} (model : DiskModel D) where
   IsInTime (Stepped now) old new = StepsInTime now old new
   IsInTime EndedOpen old new = clocks_of new ≡ record (clocks_of old) { reopened = new.reopened }
   IsInTime Aside old new = KeepsClocks old new ⊎ EndsByInput old new
+  IsInTime (Looked now) old new = clocks_of new ≡ record (clocks_of old) { looked = new.looked }
   IsInTime call old new = KeepsClocks old new
 
   -- each takes the station that the one before it left to the next

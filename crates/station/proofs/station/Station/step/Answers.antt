@@ -138,6 +138,14 @@ returns-clause-more g c = c.step_once-done.ensures.more
 pub returns-clause-works : goal.returns-clause-works
 returns-clause-works g c works = reopened_is g c ∙ c.step_once-done.ensures.works works
 
+pub returns-clause-looked : goal.returns-clause-looked
+returns-clause-looked g c =
+    ap (λ s. s.looked) c.wake_feeder.ensures.rest ∙ ap (λ (k : Clocks). k.looked) c.wake_listeners.ensures.clocks
+    ∙ elim c.if-end.branch [
+      | then-end w ↦ ap (λ s. s.looked) w.self-is ∙ ap (λ s. s.looked) c.count.ensures
+      | else-end w ↦ ap (λ s. s.looked) w.self-is ∙ ap (λ s. s.looked) c.count.ensures
+    ] ∙ ap (λ (k : Clocks). k.looked) c.step_once-done.ensures.clocks
+
 pub returns-clause-rest : goal.returns-clause-rest
 returns-clause-rest g c = (
   ap (λ s. s.options) c.wake_feeder.ensures.rest ∙ ap (λ (k : Clocks). k.options) c.wake_listeners.ensures.clocks
