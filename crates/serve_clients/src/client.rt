@@ -221,7 +221,7 @@ impl Client {
         ensures again { self.old.unsent ≢ [] → self.new ≡ record self.old { unsent = drop count self.old.unsent } }
         ensures anew { self.old.unsent ≡ [] → (self.new ≡ record self.old { unsent = drop count bytes.now; room = self.new.room })
             ⊎ (LacksRoom (drop count bytes.now) self.old × (self.new ≡ cut_for_memory self.old)) }
-        ensures whole { self.old.unsent ≡ [] → drop count bytes.now ≡ [] → self.new.stage ≡ self.old.stage }
+        ensures whole { self.old.unsent ≡ [] → drop count bytes.now ≡ [] → self.new ≡ record self.old { room = self.new.room } }
         ensures room { self.old.room ≤ self.new.room }
         ensures written { HasWritten bytes.now count self.old self.new }
     {
