@@ -8,14 +8,14 @@ use Rattle.ogg_page.specs.Page.{Page, page_bytes, page_size, bytes_of_pages}
 use Rattle.ogg_page.specs.PageLaws.{bytes_both, length-page_bytes}
 use Rattle.link_chain.specs.declared.stream_state.StreamState.{StreamState}
 use Rattle.serve_live.specs.Heard.{heard_page}
-use Rattle.serve_live.specs.Renumbering.{back_of}
-use Rattle.serve_live.specs.declared.gaps.StreamGap.{StreamGap}
+use Rattle.serve_live.specs.Renaming.{back_of}
+use Rattle.serve_live.specs.declared.names.StreamName.{StreamName}
 use Rattle.archive_cut.specs.Continuing.{firsts_of}
 use Rattle.archive_cut.specs.Cut.{ends_of}
 use Rattle.archive_cut.specs.Cutting.{gap_if, heard_ends}
 use Rattle.archive_cut.specs.Heads.{StandUpTo, said_of, streams_after, streams_by}
-use Rattle.archive_cut.specs.Retold.{head_of, names_of}
-use Rattle.archive_cut.proofs.Retold.{old_names}
+use Rattle.serve_live.specs.Renaming.{head_of, names_of}
+use Rattle.serve_live.specs.RenamingLaws.{old_names}
 use Rattle.archive_cut.proofs.Starts.{after_both}
 use Rattle.archive_cut.proofs.Walked.{NextPage}
 
@@ -79,14 +79,14 @@ passed_on bytes begin end at pages now new size w n size_is new_is =
     }
 
 -- ---- end pages without a gap
-same_page : (page : Page) → record page { sequence = page.sequence - 0 } ≡ page
-same_page page = let e : page.sequence - 0 ≡ page.sequence = omega arith in ap (λ n. let p : Page = record page { sequence = n } in p) e
+same_page : (page : Page) → record page { sequence = 0 + (page.sequence - 0) } ≡ page
+same_page page = let e : 0 + (page.sequence - 0) ≡ page.sequence = omega arith in ap (λ n. let p : Page = record page { sequence = n } in p) e
 
-no_gap : (gaps : List StreamGap) (pages : List Page) → map (heard_page (gap_if false gaps)) pages ≡ pages
+no_gap : (gaps : List StreamName) (pages : List Page) → map (heard_page (gap_if false gaps)) pages ≡ pages
 no_gap gaps [] = refl
 no_gap gaps (page ∷ pages) = ap (λ p. p ∷ map (heard_page (gap_if false gaps)) pages) (same_page page) ∙ ap (λ l. page ∷ l) (no_gap gaps pages)
 
-pub plain_ends : (gaps : List StreamGap) (streams : List StreamState) → bytes_of_pages (heard_ends false gaps streams) ≡ bytes_of_pages (ends_of streams)
+pub plain_ends : (gaps : List StreamName) (streams : List StreamState) → bytes_of_pages (heard_ends false gaps streams) ≡ bytes_of_pages (ends_of streams)
 plain_ends gaps streams = ap bytes_of_pages (no_gap gaps (ends_of streams))
 
 -- ---- what the first pages hold

@@ -6,12 +6,12 @@ use Rattle.std.proofs.Math.Seq.{take-append-add}
 use Rattle.ogg_page.specs.Laws.Halves.{Halves, halves}
 use Rattle.ogg_page.specs.LogicalStream.{is_first}
 use Rattle.ogg_page.specs.Page.{Page, bytes_of_pages}
-use Rattle.serve_live.specs.Gaps.{gap_in}
-use Rattle.serve_live.specs.Heard.{heard_after, heard_page}
+use Rattle.serve_live.specs.Names.{name_in}
+use Rattle.serve_live.specs.Heard.{named_after, named_page}
 use Rattle.serve_live.specs.Joined.{IsNew}
 use Rattle.serve_live.specs.Listening.{ArePagesLeft, IsLeft, ListenerState, part_at}
 use Rattle.serve_live.specs.Live.{Moment}
-use Rattle.serve_live.specs.declared.gaps.StreamGap.{StreamGap}
+use Rattle.serve_live.specs.declared.names.StreamName.{StreamName}
 use Rattle.archive_cut.specs.Cut.{IsCut}
 use Rattle.archive_cut.specs.Cutting.{CutState, IsCutting}
 use Rattle.archive_cut.specs.Stretch.{GivesStretch, stretch_rest}
@@ -53,13 +53,13 @@ stretch_gives bytes text place end size n told front room text_left inside fits 
 
 -- ---- a cut that waits
 -- without gaps pages are heard as they are
-heard_none : (pages : List Page) → heard_after (gap_in []) pages ≡ pages
+heard_none : (pages : List Page) → named_after (name_in []) pages ≡ pages
 heard_none [] = refl
 heard_none (page ∷ pages) =
-    cond_both (is_first page) (page ∷ pages) (heard_page (gap_in []) page ∷ heard_after (gap_in []) pages) (λ l. l ≡ page ∷ pages)
+    cond_both (is_first page) (page ∷ pages) (named_page (name_in []) page ∷ named_after (name_in []) pages) (λ l. l ≡ page ∷ pages)
     (λ _. refl)
-    (λ _. ap (λ l. heard_page (gap_in []) page ∷ l) (heard_none pages)
-    ∙ ap (λ (n : ℕ). record page { sequence = n } ∷ pages) (let e : page.sequence - 0 ≡ page.sequence = omega arith in e))
+    (λ _. ap (λ l. named_page (name_in []) page ∷ l) (heard_none pages)
+    ∙ ap (λ (n : ℕ). record page { sequence = n } ∷ pages) (let e : 0 + (page.sequence - 0) ≡ page.sequence = omega arith in e))
 
 pages_left : (committed rest : List ℕ) (start : ℕ) → ArePagesLeft committed [] start 0 rest → rest ≡ drop start committed
 pages_left committed rest start left =
@@ -73,7 +73,7 @@ waited committed heard listener start new left =
     ∙ pages_left committed left.pages start
     (subst (λ (k : ℕ). ArePagesLeft committed [] start k left.pages) new.skip
     (subst (λ (p : ℕ). ArePagesLeft committed [] p listener.skip left.pages) new.place
-    (subst (λ (gaps : List StreamGap). ArePagesLeft committed gaps listener.place listener.skip left.pages) new.gaps left.pages_left)))
+    (subst (λ (names : List StreamName). ArePagesLeft committed names listener.place listener.skip left.pages) new.names left.pages_left)))
 
 pub waits_plainly : (moment : Moment) (committed : List ℕ) (cut : CutState) (start : ℕ) → IsCutting moment committed cut [] → IsNew start 0 start [] cut.listener →
     IsCut moment committed (stretch_rest committed (record { place = start; end = cut.end; text = cut.text }))

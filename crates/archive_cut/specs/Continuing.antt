@@ -5,11 +5,11 @@ use Rattle.std.specs.List.{filter}
 use Rattle.ogg_page.specs.Page.{Page, bytes_of_pages}
 use Rattle.link_chain.specs.declared.stream_state.StreamState.{StreamState}
 use Rattle.link_chain.specs.ChainState.{state_of}
-use Rattle.serve_live.specs.Renumbering.{back_of}
+use Rattle.serve_live.specs.Renaming.{back_of}
 use Rattle.archive_cut.specs.Cut.{ends_of}
 use Rattle.archive_cut.specs.Heads.{streams_after}
 use Rattle.archive_cut.specs.Joined.{open_in}
-use Rattle.archive_cut.specs.Retold.{retold}
+use Rattle.serve_live.specs.Renaming.{retold}
 use Rattle.archive_cut.specs.declared.continuing.Meeting.{Meeting}
 use Rattle.archive_cut.specs.declared.continuing.Named.{Named}
 

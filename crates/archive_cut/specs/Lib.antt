@@ -2,7 +2,6 @@ pub mod Cut
 pub mod Packets
 pub mod Parts
 pub mod Files
-pub mod Retold
 pub mod Joined
 pub mod Times
 pub mod Cutting

@@ -3,7 +3,7 @@ ghost use Rattle.std.specs.Prelude.{◌≡◌, ◌≤◌, ◌+◌, ◌-◌, ◌^
 ghost use Rattle.ogg_page.specs.Head.{Stands};
 ghost use Rattle.ogg_page.specs.Page.{Page, IsPage, bytes_of_pages, page_bytes, page_size};
 ghost use Rattle.ogg_page.specs.Window.{KeepsSource};
-ghost use Rattle.serve_live.specs.Renumbering.{back_of};
+ghost use Rattle.serve_live.specs.Renaming.{back_of};
 ghost use Rattle.archive_cut.specs.Continuing.{IsMeeting, StandsIn, firsts_of, is_begun_as, name_on, named_page, names_on, number_on, open_streams, serves};
 ghost use Rattle.archive_cut.specs.Cut.{ends_of};
 ghost use Rattle.archive_cut.specs.Heads.{StandUpTo, said_of, streams_after};

@@ -7,7 +7,7 @@ ghost use Rattle.link_chain.specs.ChainState.{chain_state_of};
 ghost use Rattle.link_chain.specs.Links.{AreLinks};
 ghost use Rattle.serve_live.specs.Hearing.{IsHearing};
 ghost use Rattle.serve_live.specs.Joined.{IsNew};
-ghost use Rattle.serve_live.specs.Gaps.{gap_in};
+ghost use Rattle.serve_live.specs.Names.{gap_in};
 ghost use Rattle.serve_live.specs.Listening.{HasFailed, ListenerState};
 ghost use Rattle.serve_live.specs.Live.{Moment};
 ghost use Rattle.serve_live.specs.Places.{IsPlaceIn};
@@ -307,7 +307,7 @@ impl Cut {
 
     /// How many numbers of the stream aren't heard of the link that is joined, as long as no other begins.
     pub fn gap(&self, serial: u32) -> u64
-        ensures { result ≡ gap_in self.now.listener.gaps serial }
+        ensures { result ≡ gap_in self.now.listener.names serial }
     {
         self.listener.gap(serial)
     }

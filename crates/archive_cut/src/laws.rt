@@ -1,8 +1,6 @@
 //! What always holds of cuts.
-ghost use Rattle.std.specs.Prelude.{◌≡◌, ◌≢◌, ◌≤◌, ◌<◌, ◌^◌, ◌++◌, [], ◌∷◌, ℕ, List, None, bit_xor, false, length, map, nat_eq, take, true};
+ghost use Rattle.std.specs.Prelude.{◌≡◌, ◌≢◌, ◌≤◌, ◌<◌, ◌^◌, ◌++◌, [], ◌∷◌, ℕ, List, None, false, length, map, nat_eq, take, true};
 ghost use Rattle.std.specs.List.{AllByRecursion, AllZip, flat_map, list_any};
-ghost use Rattle.byteorder.specs.Endian.{little_bytes};
-ghost use Rattle.ogg_page.specs.Head.{checksum_in};
 ghost use Rattle.ogg_page.specs.Page.{Page, IsPage, bytes_of_pages, page_bytes};
 ghost use Rattle.ogg_command.specs.Command.{IsCommand};
 ghost use Rattle.ogg_command.specs.declared.command.Begin.{Begin as BeginOf};
@@ -14,8 +12,11 @@ ghost use Rattle.link_chain.specs.Limits.{most_links};
 ghost use Rattle.link_chain.specs.Recording.{Stream, Recording, Holds, HoldsLink, HoldsLinks};
 ghost use Rattle.chain_rules.specs.Commands.{AreKept, bytes_of_commands, links_behind};
 ghost use Rattle.serve_live.specs.Commands.{NoneBegins};
+ghost use Rattle.link_chain.specs.declared.stream_state.StreamState.{StreamState as StreamStateOf};
+ghost use Rattle.serve_live.specs.Following.{names_on as heard_on};
+ghost use Rattle.serve_live.specs.Heard.{named_after};
 ghost use Rattle.serve_live.specs.Joining.{AreLater};
-ghost use Rattle.serve_live.specs.Renumbering.{back_of};
+ghost use Rattle.serve_live.specs.Names.{name_in};
 ghost use Rattle.serve_live.specs.Live.{IsMomentOf, Moment};
 ghost use Rattle.archive_cut.specs.Cutting.{CutState, GivesOf, IsCutting};
 ghost use Rattle.archive_cut.specs.Files.{AreCuts, CutsHold, HasEnded, Part, bytes_of_cuts, recording_of_cuts};
@@ -34,7 +35,6 @@ ghost use Rattle.archive_cut.specs.declared.placing.Recorded.{Recorded as Record
 ghost use Rattle.archive_times.specs.declared.line.Line.{Line as LineOf};
 ghost use Rattle.archive_cut.specs.Stretch.{stretch_rest};
 ghost use Rattle.archive_cut.specs.Times.{AddUp, AreBoundaries, IsBoundary, NeverFall, stood};
-ghost use Rattle.archive_cut.specs.Retold.{HasSameRest, fields_change, fields_of, head_of, names_of, page_change, retold};
 
 use archive_times::{lines_are_known_by_their_text, the_place_of_a_time};
 use chain_rules::{command_adds_pages, commands_add_their_packets};
@@ -215,6 +215,13 @@ pub fn links_go_on()
         ≡ continued first begin (names_in_order first begin) page }
 {}
 
+/// Who hears a link on in the next file hears the pages of the joined link there, if the streams go on in order: from
+/// the numbers that they have reached in the first file, and in the second after the Begin, which isn't heard.
+pub fn listeners_hear_the_joined_link()
+    ensures { (first begun : List StreamStateOf) (later : List Page) → AreLater later
+        → bytes_of_pages (named_after (name_in (heard_on [] first begun)) later) ≡ bytes_of_pages (map (named_page (names_on begun first)) later) }
+{}
+
 /// Any number of files, each of which goes on with the last link of what came before, are together a chain of links,
 /// which holds the packets of all.
 pub fn files_go_on()
@@ -226,18 +233,4 @@ pub fn files_go_on()
     // And then what is open is ended.
     ensures ended { (bytes : List ℕ) (links : List (List Page)) (recording : Recording) → AreLinks bytes links → HoldsLinks links recording
         → HasNumbers links → Holds (ended_bytes bytes links) (all_ended recording) }
-{}
-
-/// A page whose fields before the checksum are others has a checksum that follows from the old one, the bits in which
-/// the fields differ, and the page's size: no byte of its lacing values or its body counts.
-pub fn retelling_is_exact()
-    ensures fields { (old new : Page) → IsPage old → IsPage new → HasSameRest old new → page_bytes new
-        ≡ fields_of new ++ (little_bytes 4 (bit_xor (checksum_in old) (fields_change old new)) ++ back_of old) }
-    // The same of a page under another serial and with another number.
-    ensures old { (page : Page) → page_bytes page
-        ≡ head_of page ++ (names_of page.serial page.sequence ++ (little_bytes 4 (checksum_in page) ++ back_of page)) }
-    ensures new { (serial number : ℕ) (page : Page) → IsPage page → serial < 2 ^ 32 → number < 2 ^ 32
-        → page_bytes (retold serial number page)
-        ≡ head_of page ++ (names_of serial number ++ (little_bytes 4 (bit_xor (checksum_in page)
-        (page_change page serial number)) ++ back_of page)) }
 {}

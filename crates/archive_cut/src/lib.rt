@@ -25,7 +25,7 @@ pub use heads::{Said, said_of, take_page, take_pages};
 pub use laws::{
     commands_are_cut, cuts_add_up, cuts_are_a_chain, cuts_are_given, cuts_can_be_finished,
     cuts_hold_what_was_put, cuts_of_times_add_up, files_go_on, files_stand_in_order, links_go_on,
-    retelling_is_exact, waiting_cuts_are_stretches,
+    listeners_hear_the_joined_link, waiting_cuts_are_stretches,
 };
 pub use page_heads::{LONGEST_HEAD, PageFront, read_front};
 pub use paging::{Paged, page_room};

@@ -55,4 +55,4 @@ pub use source::{PageSource, Whole};
 pub use std::alloc::AllocError as Memory;
 pub use visiting::{PageVisitor, Visit, walk};
 pub use window::Window;
-pub use writing::{close_page, open_page, put_sequence, write_page};
+pub use writing::{close_page, open_page, put_names, write_page};

@@ -75,17 +75,19 @@ fn put_number(number: u32, at: usize, out: &mut Vec<u8>)
     out[at + 3] = b3;
 }
 
-/// Puts another sequence number and checksum into a page's header, which the bytes begin with (RFC 3533, section 6, fields 6
-/// and 7). Whether the checksum is that of the page then is the caller's to know.
-pub fn put_sequence(header: &mut [u8], sequence: u32, checksum: u32)
+/// Puts another serial, sequence number and checksum into a page's header, which the bytes begin with (RFC 3533, section 6,
+/// fields 5 to 7). Whether the checksum is that of the page then is the caller's to know.
+pub fn put_names(header: &mut [u8], serial: u32, sequence: u32, checksum: u32)
     requires { checksum_end ≤ length header.old }
-    ensures { header.new ≡ take 18 header.old ++ (little_bytes 4 sequence ++ (little_bytes 4 checksum ++ drop checksum_end header.old)) }
+    ensures { header.new ≡ take 14 header.old
+        ++ (((little_bytes 4 serial ++ little_bytes 4 sequence) ++ little_bytes 4 checksum) ++ drop checksum_end header.old) }
 {
+    let [s0, s1, s2, s3] = serial.to_le_bytes();
     let [n0, n1, n2, n3] = sequence.to_le_bytes();
     let [c0, c1, c2, c3] = checksum.to_le_bytes();
-    let (_, behind) = header.split_at_mut(18);
-    let (own, _) = behind.split_at_mut(8);
-    own.copy_from_slice(&[n0, n1, n2, n3, c0, c1, c2, c3]);
+    let (_, behind) = header.split_at_mut(14);
+    let (own, _) = behind.split_at_mut(12);
+    own.copy_from_slice(&[s0, s1, s2, s3, n0, n1, n2, n3, c0, c1, c2, c3]);
 }
 
 /// Appends bytes. There must be room for them.

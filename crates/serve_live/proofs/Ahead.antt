@@ -6,11 +6,11 @@ use Rattle.std.proofs.Math.Seq.{take-add, take-append_seam}
 use Rattle.ogg_page.specs.Page.{Page, page_bytes, page_size}
 use Rattle.ogg_page.specs.LogicalStream.{is_first}
 use Rattle.ogg_page.specs.Head.{Stands, head_size}
-use Rattle.serve_live.specs.Gaps.{gap_in}
+use Rattle.serve_live.specs.Names.{name_in}
 use Rattle.serve_live.specs.Heads.{next_heard, IsHeadAt, IsHeadOf}
 use Rattle.serve_live.specs.Listening.{part_at}
-use Rattle.serve_live.specs.Pulling.{AreGiven, AreRead, ArePulled, gaps_from, gaps_kept}
-use Rattle.serve_live.specs.declared.gaps.StreamGap.{StreamGap}
+use Rattle.serve_live.specs.Pulling.{AreGiven, AreRead, ArePulled, names_from, names_kept}
+use Rattle.serve_live.specs.declared.names.StreamName.{StreamName}
 use Rattle.serve_live.specs.declared.heads.HeardHead.{HeardHead}
 use Rattle.serve_live.specs.declared.pages.PageLeft.{PageLeft}
 use Rattle.serve_live.proofs.NextPage.{HasNext, IsAfter, heard_size, part_in_front, part_of_body, part_of_head, pulled_some, stands}
@@ -48,32 +48,32 @@ made_copied head given before now le copied =
     ∙ ap (λ l. take given before ++ (own ++ l)) (sym (take-append-drop n rest) ∙ ap (λ l. take n rest ++ l) behind)
     ∙ ap (λ l. take given before ++ l) (sym (append_assoc own (take n rest) (drop (given + head.size) before)))
 
-pub made_is : (gaps : ℕ → ℕ) (bytes before : List ℕ) (page : Page) (head : HeardHead) (place given : ℕ) → Stands (drop place bytes) page
-    → IsHeadOf gaps page head → 26 ≤ head.len → head.len ≤ head.size
+pub made_is : (names : ℕ → StreamName) (bytes before : List ℕ) (page : Page) (head : HeardHead) (place given : ℕ) → Stands (drop place bytes) page
+    → IsHeadOf names page head → 26 ≤ head.len → head.len ≤ head.size
     → take (head.size - head.len) (drop (given + head.len) before) ≡ part_at (place + head.len) (head.size - head.len) bytes
-    → made head given before ≡ part_at 0 head.size (page_bytes (next_heard gaps page))
-made_is gaps bytes before page head place given s h long le read =
-    let own = page_bytes (next_heard gaps page) in
+    → made head given before ≡ part_at 0 head.size (page_bytes (next_heard names page))
+made_is names bytes before page head place given s h long le read =
+    let own = page_bytes (next_heard names page) in
     let n = head.size - head.len in
     let front : take head.len head.bytes ≡ take head.len own =
-    sym (take_twice head.len head.bytes) ∙ part_of_head gaps page head 0 head.len h (omega arith) in
+    sym (take_twice head.len head.bytes) ∙ part_of_head names page head 0 head.len h (omega arith) in
     let body : take n (drop (given + head.len) before) ≡ take n (drop head.len own) =
-    read ∙ part_of_body gaps bytes page place head.len n s long (omega (arith, le, h.size)) in
+    read ∙ part_of_body names bytes page place head.len n s long (omega (arith, le, h.size)) in
     (λ i. front i ++ body i)
     ∙ sym (take-add head.len n own)
     ∙ ap (λ k. take k own) (omega (arith, le))
 
-pub goes_on : (committed more rest : List ℕ) (gaps : List StreamGap) (start left after : PageLeft) (head : HeardHead) (given end : ℕ) (before now : List ℕ)
-    → AreGiven committed more rest gaps start left given end before
-    → (h : HasNext committed (gaps_kept gaps left) left.place left.skip (drop given rest))
-    → IsHeadOf (gap_in (gaps_kept gaps left)) h.page head
+pub goes_on : (committed more rest : List ℕ) (names : List StreamName) (start left after : PageLeft) (head : HeardHead) (given end : ℕ) (before now : List ℕ)
+    → AreGiven committed more rest names start left given end before
+    → (h : HasNext committed (names_kept names left) left.place left.skip (drop given rest))
+    → IsHeadOf (name_in (names_kept names left)) h.page head
     → left.skip ≡ 0 → 26 ≤ head.len → head.len ≤ head.size → given + head.size ≤ end → end ≤ length before
     → left.place + (end - given) ≤ length committed
     → now ≡ take given before ++ (take head.len head.bytes ++ drop (given + head.len) before)
     → IsAfter left after head.begins head.size head.size
-    → AreGiven committed more rest gaps start after (given + head.size) end now
-goes_on committed more rest gaps start left after head given end before now b h is skip long le fits room inside copied a =
-    let kept = gaps_kept gaps left in
+    → AreGiven committed more rest names start after (given + head.size) end now
+goes_on committed more rest names start left after head given end before now b h is skip long le fits room inside copied a =
+    let kept = names_kept names left in
     let bytes = committed ++ more in
     let whole = end - given in
     let body = head.size - head.len in
@@ -82,12 +82,12 @@ goes_on committed more rest gaps start left after head given end before now b h 
     let room_all : given + whole ≤ length before = omega (arith, room, fits) in
     let s = stands committed bytes more kept left.place left.skip (drop given rest) h refl in
     let read_body = same_part bytes before left.place given whole head.len body b.read (omega (arith, le, fits)) room_all inside_all in
-    let part_is : made head given before ≡ part_at left.skip head.size (page_bytes (next_heard (gap_in kept) h.page)) =
-    made_is (gap_in kept) bytes before h.page head left.place given s is long le read_body
-    ∙ ap (λ k. part_at k head.size (page_bytes (next_heard (gap_in kept) h.page))) (sym skip) in
+    let part_is : made head given before ≡ part_at left.skip head.size (page_bytes (next_heard (name_in kept) h.page)) =
+    made_is (name_in kept) bytes before h.page head left.place given s is long le read_body
+    ∙ ap (λ k. part_at k head.size (page_bytes (next_heard (name_in kept) h.page))) (sym skip) in
     let none : left.skip + head.size ≡ head.size = omega (arith, skip) in
     let whole_copied = made_copied head given before now le copied in
-    let pulled = pulled_some committed rest gaps left after head.begins given head.size head.size before (made head given before) now
+    let pulled = pulled_some committed rest names left after head.begins given head.size head.size before (made head given before) now
     b.pulled h (omega (arith, room, fits)) (omega (arith, none)) is.size is.begins whole_copied part_is a in
     let passed = passed_some committed kept (drop given rest) left after head.begins head.size head.size h (omega (arith, none)) is.size is.begins a in
     let to : after.place ≡ left.place + head.size = (a.behind none).0 in
@@ -100,9 +100,9 @@ goes_on committed more rest gaps start left after head given end before now b h 
       room,
       fits,
       ap length part_is,
-      length-take head.size (drop left.skip (page_bytes (next_heard (gap_in kept) h.page))),
-      length-drop left.skip (page_bytes (next_heard (gap_in kept) h.page)),
-      heard_size (gap_in kept) h.page,
+      length-take head.size (drop left.skip (page_bytes (next_heard (name_in kept) h.page))),
+      length-drop left.skip (page_bytes (next_heard (name_in kept) h.page)),
+      heard_size (name_in kept) h.page,
       is.size,
       skip,
     ) in
@@ -118,12 +118,12 @@ goes_on committed more rest gaps start left after head given end before now b h 
     }
 
 -- nothing is given yet of what was read
-pub was_read : (committed more rest : List ℕ) (gaps : List StreamGap) (left : PageLeft) (given count : ℕ) (before now : List ℕ)
-    → ArePulled committed rest gaps left given before → take given now ≡ take given before
+pub was_read : (committed more rest : List ℕ) (names : List StreamName) (left : PageLeft) (given count : ℕ) (before now : List ℕ)
+    → ArePulled committed rest names left given before → take given now ≡ take given before
     → now ≡ take given before ++ (part_at left.place count (committed ++ more) ++ drop (given + count) before)
     → given ≤ length before → left.place + count ≤ length committed
-    → AreGiven committed more rest gaps left left given (given + count) now
-was_read committed more rest gaps left given count before now b kept copied room inside =
+    → AreGiven committed more rest names left left given (given + count) now
+was_read committed more rest names left given count before now b kept copied room inside =
     let bytes = committed ++ more in
     let part = part_at left.place count bytes in
     let front : length (take given before) ≡ given = omega (arith, length-take given before, room) in
@@ -142,14 +142,14 @@ was_read committed more rest gaps left given count before now b kept copied room
     }
 
 -- a head that was read is that of the page at its place, also in the source as it stands after that
-pub head_at : (kept gaps : List StreamGap) (old new : List ℕ) (place : ℕ) (head : HeardHead) → kept ≡ gaps → new ≡ old
-    → IsHeadAt old place kept head → IsHeadAt new place gaps head
-head_at kept gaps old new place head gaps_are same is page s =
-    subst (λ l. IsHeadOf (gap_in l) page head) gaps_are (is page (subst (λ bytes. Stands (drop place bytes) page) same s))
+pub head_at : (kept names : List StreamName) (old new : List ℕ) (place : ℕ) (head : HeardHead) → kept ≡ names → new ≡ old
+    → IsHeadAt old place kept head → IsHeadAt new place names head
+head_at kept names old new place head gaps_are same is page s =
+    subst (λ l. IsHeadOf (name_in l) page head) gaps_are (is page (subst (λ bytes. Stands (drop place bytes) page) same s))
 
 -- and it stays that as long as the page isn't over
-pub head_stays : (gaps : List StreamGap) (old new : List ℕ) (left after : PageLeft) (head : HeardHead) → after.place ≡ left.place → after.anew ≡ left.anew → new ≡ old
-    → IsHeadAt old left.place (gaps_kept gaps left) head → IsHeadAt new after.place (gaps_kept gaps after) head
-head_stays gaps old new left after head place anew same is =
-    subst (λ p. IsHeadAt new p (gaps_kept gaps after) head) (sym place)
-    (head_at (gaps_kept gaps left) (gaps_kept gaps after) old new left.place head (ap (gaps_from gaps) (sym anew)) same is)
+pub head_stays : (names : List StreamName) (old new : List ℕ) (left after : PageLeft) (head : HeardHead) → after.place ≡ left.place → after.anew ≡ left.anew → new ≡ old
+    → IsHeadAt old left.place (names_kept names left) head → IsHeadAt new after.place (names_kept names after) head
+head_stays names old new left after head place anew same is =
+    subst (λ p. IsHeadAt new p (names_kept names after) head) (sym place)
+    (head_at (names_kept names left) (names_kept names after) old new left.place head (ap (names_from names) (sym anew)) same is)

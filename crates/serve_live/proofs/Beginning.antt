@@ -13,14 +13,15 @@ use Rattle.link_chain.specs.Links.{AreLinks, IsLink, pages_with, serials_of, has
 use Rattle.link_chain.specs.Laws.Grow.{stream_same}
 use Rattle.link_chain.specs.Laws.LastLink.{all_split}
 use Rattle.link_chain.specs.Laws.TakenLinks.{without}
-use Rattle.serve_live.specs.Gaps.{gap_in}
+use Rattle.serve_live.specs.Names.{name_in, plain}
 use Rattle.serve_live.specs.Heard.{gap, end_page, end_pages}
 use Rattle.serve_live.specs.Hearing.{IsHearing}
-use Rattle.serve_live.specs.Joined.{joined_stream, joined_streams, end_of, ends_of, ends_unheard, gap_between, IsNew, IsNewAt}
+use Rattle.serve_live.specs.Joined.{joined_stream, joined_streams, end_of, ends_of, ends_unheard, name_between, IsNew, IsNewAt}
 use Rattle.serve_live.specs.Joining.{IsJoined}
 use Rattle.serve_live.specs.Listening.{ListenerState, part_at}
 use Rattle.serve_live.specs.Live.{Moment, IsMomentOf, begin_place}
 use Rattle.serve_live.specs.declared.joined.JoinedStream.{JoinedStream}
+use Rattle.serve_live.specs.declared.names.StreamName.{StreamName}
 use Rattle.serve_live.proofs.OneLink.{goes_unheard, end_is_page, listed}
 
 -- a page stands before a boundary
@@ -61,27 +62,34 @@ ends_from moment (s ∷ serials) l pages there =
     inside true l = refl
     inside false l = refl
 
-gap_at : (moment : Moment) (serial : ℕ) (serials : List ℕ) → list_any (nat_eq serial) serials ≡ true →
-    gap_in (map gap_between (map (joined_stream moment) serials)) serial ≡ gap moment.begin moment.passed serial
-gap_at moment serial [] there = cc
-gap_at moment serial (s ∷ serials) there =
+-- how the streams with these serials are heard
+abbrev names_of : Moment → List ℕ → List StreamName
+names_of moment serials = map name_between (map (joined_stream moment) serials)
+
+name_at : (moment : Moment) (serial : ℕ) (serials : List ℕ) → list_any (nat_eq serial) serials ≡ true →
+    name_in (names_of moment serials) serial ≡ plain (gap moment.begin moment.passed) serial
+name_at moment serial [] there = cc
+name_at moment serial (s ∷ serials) there =
     elim (cases_eq s serial) [
       | inl same ↦
-          cond-true (nat_eq s serial) (gap moment.begin moment.passed s) (gap_in (map gap_between (map (joined_stream moment) serials)) serial) (eq-eqb s serial same)
-          ∙ ap (gap moment.begin moment.passed) same
+          cond-true (nat_eq s serial) (plain (gap moment.begin moment.passed) s) (name_in (names_of moment serials) serial) (eq-eqb s serial same)
+          ∙ ap (plain (gap moment.begin moment.passed)) same
       | inr other ↦
-          cond-false (nat_eq s serial) (gap moment.begin moment.passed s) (gap_in (map gap_between (map (joined_stream moment) serials)) serial) (ne_eqb s serial other)
-          ∙ gap_at moment serial serials (sym (ap (λ b. b || list_any (nat_eq serial) serials) (ne_eqb serial s (λ e. other (sym e)))) ∙ there)
+          cond-false (nat_eq s serial) (plain (gap moment.begin moment.passed) s) (name_in (names_of moment serials) serial) (ne_eqb s serial other)
+          ∙ name_at moment serial serials (sym (ap (λ b. b || list_any (nat_eq serial) serials) (ne_eqb serial s (λ e. other (sym e)))) ∙ there)
     ]
 
-gap_not : (moment : Moment) (serial : ℕ) (serials : List ℕ) → list_any (nat_eq serial) serials ≡ false →
-    gap_in (map gap_between (map (joined_stream moment) serials)) serial ≡ 0
-gap_not moment serial [] none = refl
-gap_not moment serial (s ∷ serials) none =
+name_not : (moment : Moment) (serial : ℕ) (serials : List ℕ) → list_any (nat_eq serial) serials ≡ false →
+    name_in (names_of moment serials) serial ≡ plain (λ _. 0) serial
+name_not moment serial [] none = refl
+name_not moment serial (s ∷ serials) none =
     let parts : (nat_eq serial s ≡ false) × (list_any (nat_eq serial) serials ≡ false) = or_parts (nat_eq serial s) (list_any (nat_eq serial) serials) none in
-    cond-false (nat_eq s serial) (gap moment.begin moment.passed s) (gap_in (map gap_between (map (joined_stream moment) serials)) serial)
+    cond-false (nat_eq s serial) (plain (gap moment.begin moment.passed) s) (name_in (names_of moment serials) serial)
     (ne_eqb s serial (λ e. eqb-false serial s parts.0 (sym e)))
-    ∙ gap_not moment serial serials parts.1
+    ∙ name_not moment serial serials parts.1
+
+abbrev with_gap : ℕ → ℕ → StreamName
+with_gap serial n = record { serial = serial; name = serial; less = n; more = 0 }
 
 -- a stream that the link hasn't has no gap
 no_gap : (moment : Moment) (serial : ℕ) → IsLink (moment.begin ++ moment.passed) → IsJoined moment.begin moment.passed → has_stream moment.begin serial ≡ false →
@@ -92,12 +100,12 @@ no_gap moment serial l j none =
     let number : number_behind (pages_with serial (moment.begin ++ moment.passed)) ≡ 0 = ap number_behind all in
     omega (arith, number)
 
-gaps_are : (moment : Moment) (serial : ℕ) → IsLink (moment.begin ++ moment.passed) → IsJoined moment.begin moment.passed →
-    gap_in (map gap_between (joined_streams moment)) serial ≡ gap moment.begin moment.passed serial
-gaps_are moment serial l j =
+names_are : (moment : Moment) (serial : ℕ) → IsLink (moment.begin ++ moment.passed) → IsJoined moment.begin moment.passed →
+    name_in (map name_between (joined_streams moment)) serial ≡ plain (gap moment.begin moment.passed) serial
+names_are moment serial l j =
     elim (cases_Bool (has_stream moment.begin serial)) [
-      | inl there ↦ gap_at moment serial (serials_of moment.begin) there
-      | inr none ↦ gap_not moment serial (serials_of moment.begin) none ∙ sym (no_gap moment serial l j none)
+      | inl there ↦ name_at moment serial (serials_of moment.begin) there
+      | inr none ↦ name_not moment serial (serials_of moment.begin) none ∙ ap (with_gap serial) (sym (no_gap moment serial l j none))
     ]
 
 pub begins_hearing : (committed front tail : List ℕ) (moment : Moment) (listener : ListenerState) →
@@ -121,7 +129,7 @@ begins_hearing committed front tail moment listener l pages j at split new =
       are_done = tt;
       between = ap (λ n. drop n committed) (at ∙ sym new.place);
       place = new.place ∙ sym at ∙ omega arith;
-      gaps = λ s. ap (λ g. gap_in g s) new.gaps ∙ gaps_are moment s l j;
+      names = λ s. ap (λ names. name_in names s) new.names ∙ names_are moment s l j;
       rest = begin ++ (listener.text ++ []);
       left = record {
         begins = omega (arith, new.begin_place, new.begin_left, size);
@@ -185,7 +193,7 @@ waits_hearing committed listener new =
       are_done = tt;
       between = ap (λ n. drop n committed) (sym new.place);
       place = new.place ∙ omega arith;
-      gaps = λ s. ap (λ g. gap_in g s) new.gaps;
+      names = λ s. ap (λ names. name_in names s) new.names;
       rest = [];
       left = record {
         begins = omega (arith, new.begin_place, new.begin_left);
@@ -226,7 +234,7 @@ moment_hearing committed moment listener m new =
           let at : begin_place moment ≡ length front = omega (arith, m.place, size) in
           begins_hearing committed front (bytes_of_pages moment.passed) moment listener
           (all_split IsLink mid.before (link ∷ []) l.each).1.0 (all_split (AllByRecursion IsPage) mid.before (link ∷ []) l.pages).1.0 mid.joined m.place split
-          (record { begin_place = new.begin_place ∙ at; begin_left = new.begin_left; text = new.text; gaps = new.gaps; place = new.place ∙ m.place; skip = new.skip }))
+          (record { begin_place = new.begin_place ∙ at; begin_left = new.begin_left; text = new.text; names = new.names; place = new.place ∙ m.place; skip = new.skip }))
       | inr none ↦ between none.begin none.passed
     ]
   where
@@ -242,7 +250,7 @@ moment_hearing committed moment listener m new =
           begin_place = new.begin_place ∙ omega (arith, m.place, size);
           begin_left = new.begin_left ∙ ap (λ x. length (bytes_of_pages x)) begin;
           text = new.text ∙ ap (λ x. bytes_of_pages (ends_of x)) streams;
-          gaps = new.gaps ∙ ap (map gap_between) streams;
+          names = new.names ∙ ap (map name_between) streams;
           place = new.place ∙ m.place;
           skip = new.skip;
         }))

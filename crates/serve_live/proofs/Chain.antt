@@ -11,7 +11,9 @@ use Rattle.link_chain.specs.LinkLaws.{in_turn, only, pages_flattened}
 use Rattle.link_chain.specs.Laws.LastLink.{all_split}
 use Rattle.link_chain.specs.Laws.Fronts.{page_fits}
 use Rattle.link_chain.specs.Laws.InTurn.{bytes_flattened}
-use Rattle.serve_live.specs.Heard.{gap, heard_page, heard_after, heard, heard_bytes, heard_link, end_pages}
+use Rattle.serve_live.specs.Heard.{gap, heard_page, heard_after, heard, heard_bytes, heard_link, end_pages, named_after, named_page}
+use Rattle.serve_live.specs.Names.{plain}
+use Rattle.serve_live.specs.declared.names.StreamName.{StreamName}
 use Rattle.serve_live.specs.Joining.{AreLater, IsJoined, heard_streams}
 use Rattle.serve_live.proofs.OneLink.{is_link, are_pages, still_ended, held_link}
 use Rattle.link_chain.specs.Laws.TakenLinks.{taken_front}
@@ -126,27 +128,27 @@ hold_links bytes before further begin passed later begun joined now more are j u
     (held_link begin passed later begun joined now each.0 j unmarked hb hj hn, hm)
 
 -- ---- more is heard as more is committed
-pub after_grows : (gaps : ℕ → ℕ) (after more : List Page) → (rest : List Page) × (heard_after gaps (after ++ more) ≡ heard_after gaps after ++ rest)
-after_grows gaps [] more = (heard_after gaps more, refl)
-after_grows gaps (page ∷ after) more =
-    let next : (rest : List Page) × (heard_after gaps (after ++ more) ≡ heard_after gaps after ++ rest) = after_grows gaps after more in
+pub after_grows : (names : ℕ → StreamName) (after more : List Page) → (rest : List Page) × (named_after names (after ++ more) ≡ named_after names after ++ rest)
+after_grows names [] more = (named_after names more, refl)
+after_grows names (page ∷ after) more =
+    let next : (rest : List Page) × (named_after names (after ++ more) ≡ named_after names after ++ rest) = after_grows names after more in
     elim (cases_Bool (is_first page)) [
       | inl first ↦ (
         more,
-        cond-true (is_first page) (page ∷ (after ++ more)) (heard_page gaps page ∷ heard_after gaps (after ++ more)) first
-            ∙ ap (λ l. l ++ more) (sym (cond-true (is_first page) (page ∷ after) (heard_page gaps page ∷ heard_after gaps after) first)),
+        cond-true (is_first page) (page ∷ (after ++ more)) (named_page names page ∷ named_after names (after ++ more)) first
+            ∙ ap (λ l. l ++ more) (sym (cond-true (is_first page) (page ∷ after) (named_page names page ∷ named_after names after) first)),
       )
       | inr later ↦ (
         next.0,
-        cond-false (is_first page) (page ∷ (after ++ more)) (heard_page gaps page ∷ heard_after gaps (after ++ more)) later
-            ∙ ap (λ l. heard_page gaps page ∷ l) next.1
-            ∙ ap (λ l. l ++ next.0) (sym (cond-false (is_first page) (page ∷ after) (heard_page gaps page ∷ heard_after gaps after) later)),
+        cond-false (is_first page) (page ∷ (after ++ more)) (named_page names page ∷ named_after names (after ++ more)) later
+            ∙ ap (λ l. named_page names page ∷ l) next.1
+            ∙ ap (λ l. l ++ next.0) (sym (cond-false (is_first page) (page ∷ after) (named_page names page ∷ named_after names after) later)),
       )
     ]
 
 pub heard_grows : (begin passed after more : List Page) → (rest : List Page) × (heard begin passed (after ++ more) ≡ heard begin passed after ++ rest)
 heard_grows begin passed after more =
-    let next : (rest : List Page) × (heard_after (gap begin passed) (after ++ more) ≡ heard_after (gap begin passed) after ++ rest) = after_grows (gap begin passed) after more in (
+    let next : (rest : List Page) × (heard_after (gap begin passed) (after ++ more) ≡ heard_after (gap begin passed) after ++ rest) = after_grows (plain (gap begin passed)) after more in (
       next.0,
       ap (λ l. begin ++ (end_pages begin passed ++ l)) next.1
           ∙ ap (λ l. begin ++ l) (sym (append_assoc (end_pages begin passed) (heard_after (gap begin passed) after) next.0))

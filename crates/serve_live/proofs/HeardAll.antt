@@ -4,10 +4,10 @@ use Rattle.std.specs.Prelude.{◌==◌, nat_le}
 use Rattle.std.proofs.lemmas.Bool.Decides.{eqb_tells, leb_tells}
 use Rattle.ogg_page.specs.Page.{Page, page_bytes, bytes_of_pages}
 use Rattle.ogg_page.specs.PageLaws.{length-page_bytes}
-use Rattle.serve_live.specs.Gaps.{gap_in}
-use Rattle.serve_live.specs.Heard.{heard_after}
+use Rattle.serve_live.specs.Names.{name_in}
+use Rattle.serve_live.specs.Heard.{named_after}
 use Rattle.serve_live.specs.Listening.{ArePagesLeft, IsLeft, IsWithin, ListenerState, has_heard_all, part_at}
-use Rattle.serve_live.specs.declared.gaps.StreamGap.{StreamGap}
+use Rattle.serve_live.specs.declared.names.StreamName.{StreamName}
 
 false_true : false ≡ true → ⊥
 false_true e = cc
@@ -32,12 +32,12 @@ empty : (bytes : List ℕ) → length bytes ≤ 0 → bytes ≡ []
 empty [] none = refl
 empty (byte ∷ bytes) none = absurd (omega (arith, none))
 
-no_pages : (committed : List ℕ) (gaps : List StreamGap) (place skip : ℕ) (rest : List ℕ) → length committed ≤ place → ArePagesLeft committed gaps place skip rest
+no_pages : (committed : List ℕ) (names : List StreamName) (place skip : ℕ) (rest : List ℕ) → length committed ≤ place → ArePagesLeft committed names place skip rest
     → rest ≡ []
-no_pages committed gaps place skip rest end left = from left.pages left.split left.inside left.rest_is
+no_pages committed names place skip rest end left = from left.pages left.split left.inside left.rest_is
   where
     from : (pages : List Page) → committed ≡ left.front ++ bytes_of_pages pages → IsWithin skip pages
-        → rest ≡ drop skip (bytes_of_pages (heard_after (gap_in gaps) pages)) → rest ≡ []
+        → rest ≡ drop skip (bytes_of_pages (named_after (name_in names) pages)) → rest ≡ []
     from [] split inside is = is ∙ ap (λ (n : ℕ). drop {A = ℕ} n []) inside
     from (page ∷ pages) split inside is =
         absurd (omega (
@@ -55,7 +55,7 @@ pub nothing_left : (committed rest : List ℕ) (listener : ListenerState) → ha
 nothing_left committed rest listener is left =
     let (begun, others) = both (listener.begin_left == 0) (nat_le (length listener.text) 0 && nat_le (length committed) listener.place) is in
     let (told, heard) = both (nat_le (length listener.text) 0) (nat_le (length committed) listener.place) others in
-    let pages = no_pages committed listener.gaps listener.place listener.skip left.pages (le_of (length committed) listener.place heard) left.pages_left in
+    let pages = no_pages committed listener.names listener.place listener.skip left.pages (le_of (length committed) listener.place heard) left.pages_left in
     left.joined
     ∙ ap (λ (n : ℕ). part_at listener.begin_place n committed ++ (listener.text ++ left.pages)) (eq_of listener.begin_left 0 begun)
     ∙ ap (λ (text : List ℕ). text ++ left.pages) (empty listener.text (le_of (length listener.text) 0 told))

@@ -1,9 +1,7 @@
 mod OneStream
 mod OneLink
 mod Chain
-mod Linear
 mod Commands
-mod NewHead
 mod Pulled
 mod NextPage
 mod Live

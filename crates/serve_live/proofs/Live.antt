@@ -6,14 +6,14 @@ use Rattle.ogg_page.specs.Page.{Page, IsPage, page_bytes, bytes_of_pages}
 use Rattle.ogg_page.specs.PageLaws.{pages_both, bytes_both}
 use Rattle.ogg_page.specs.Laws.Prefixes.{same_fronts}
 use Rattle.link_chain.specs.Laws.InTurn.{same_pages}
-use Rattle.serve_live.specs.Heard.{heard, heard_after, heard_bytes}
-use Rattle.serve_live.specs.Gaps.{gap_in}
+use Rattle.serve_live.specs.Heard.{heard, heard_bytes, named_after}
+use Rattle.serve_live.specs.Names.{name_in}
 use Rattle.serve_live.specs.Heads.{next_heard}
 use Rattle.serve_live.specs.Listening.{ArePagesLeft, IsLeft, IsWithin, ListenerState, part_at}
 use Rattle.serve_live.specs.Live.{Moment, IsLive}
-use Rattle.serve_live.specs.declared.gaps.StreamGap.{StreamGap}
+use Rattle.serve_live.specs.declared.names.StreamName.{StreamName}
 use Rattle.serve_live.proofs.Chain.{heard_grows, after_grows}
-use Rattle.serve_live.proofs.NextPage.{heard_size, next_is, gaps_after}
+use Rattle.serve_live.proofs.NextPage.{heard_size, next_is, names_after}
 
 pub one_live : (moment : Moment) (committed bytes others : List ℕ) → IsLive moment committed bytes → IsLive moment committed others → bytes ≡ others
 one_live moment committed bytes others a b =
@@ -41,17 +41,17 @@ live_grows moment committed bytes more live are =
     )
 
 -- what is left of the pages grows likewise
-room_of : (gaps : List StreamGap) (skip : ℕ) (pages : List Page) → IsWithin skip pages → skip ≤ length (bytes_of_pages (heard_after (gap_in gaps) pages))
-room_of gaps skip [] inside = omega (arith, inside)
-room_of gaps skip (page ∷ pages) inside =
-    let own : List ℕ = page_bytes (next_heard (gap_in gaps) page) in
-    let others : List ℕ = bytes_of_pages (heard_after (gap_in (gaps_after gaps page)) pages) in
-    omega (arith, inside, heard_size (gap_in gaps) page, ap (λ l. length (bytes_of_pages l)) (next_is gaps page pages), length-append own others)
+room_of : (names : List StreamName) (skip : ℕ) (pages : List Page) → IsWithin skip pages → skip ≤ length (bytes_of_pages (named_after (name_in names) pages))
+room_of names skip [] inside = omega (arith, inside)
+room_of names skip (page ∷ pages) inside =
+    let own : List ℕ = page_bytes (next_heard (name_in names) page) in
+    let others : List ℕ = bytes_of_pages (named_after (name_in (names_after names page)) pages) in
+    omega (arith, inside, heard_size (name_in names) page, ap (λ l. length (bytes_of_pages l)) (next_is names page pages), length-append own others)
 
-pub left_grows_by : (committed : List ℕ) (gaps : List StreamGap) (place skip : ℕ) (rest : List ℕ) (more : List Page) (left : ArePagesLeft committed gaps place skip rest) →
-    AllByRecursion IsPage more → (next : List Page) → heard_after (gap_in gaps) (left.pages ++ more) ≡ heard_after (gap_in gaps) left.pages ++ next →
-    ArePagesLeft (committed ++ bytes_of_pages more) gaps place skip (rest ++ bytes_of_pages next)
-left_grows_by committed gaps place skip rest more left are next next_is = record {
+pub left_grows_by : (committed : List ℕ) (names : List StreamName) (place skip : ℕ) (rest : List ℕ) (more : List Page) (left : ArePagesLeft committed names place skip rest) →
+    AllByRecursion IsPage more → (next : List Page) → named_after (name_in names) (left.pages ++ more) ≡ named_after (name_in names) left.pages ++ next →
+    ArePagesLeft (committed ++ bytes_of_pages more) names place skip (rest ++ bytes_of_pages next)
+left_grows_by committed names place skip rest more left are next next_is = record {
   front = left.front;
   pages = left.pages ++ more;
   split = ap (λ l. l ++ bytes_of_pages more) left.split ∙ append_assoc left.front (bytes_of_pages left.pages) (bytes_of_pages more)
@@ -60,8 +60,8 @@ left_grows_by committed gaps place skip rest more left are next next_is = record
   are_pages = pages_both left.pages more left.are_pages are;
   inside = longer left.pages left.inside;
   rest_is = ap (λ l. l ++ bytes_of_pages next) left.rest_is
-      ∙ sym (drop-append-le skip (bytes_of_pages (heard_after (gap_in gaps) left.pages)) (bytes_of_pages next) (room_of gaps skip left.pages left.inside))
-      ∙ ap (drop skip) (sym (bytes_both (heard_after (gap_in gaps) left.pages) next) ∙ ap bytes_of_pages (sym next_is));
+      ∙ sym (drop-append-le skip (bytes_of_pages (named_after (name_in names) left.pages)) (bytes_of_pages next) (room_of names skip left.pages left.inside))
+      ∙ ap (drop skip) (sym (bytes_both (named_after (name_in names) left.pages) next) ∙ ap bytes_of_pages (sym next_is));
 }
   where
     none : (pages : List Page) → IsWithin 0 pages
@@ -74,7 +74,7 @@ left_grows_by committed gaps place skip rest more left are next next_is = record
 
 pub listener_grows_by : (committed : List ℕ) (listener : ListenerState) (rest : List ℕ) (more : List Page) (left : IsLeft committed listener rest) →
     AllByRecursion IsPage more → (next : List Page) →
-    heard_after (gap_in listener.gaps) (left.pages_left.pages ++ more) ≡ heard_after (gap_in listener.gaps) left.pages_left.pages ++ next →
+    named_after (name_in listener.names) (left.pages_left.pages ++ more) ≡ named_after (name_in listener.names) left.pages_left.pages ++ next →
     IsLeft (committed ++ bytes_of_pages more) listener (rest ++ bytes_of_pages next)
 listener_grows_by committed listener rest more left are next next_is =
     let place : ℕ = listener.begin_place in
@@ -85,7 +85,7 @@ listener_grows_by committed listener rest more left are next next_is =
     record {
       begins = omega (arith, there, length-append committed (bytes_of_pages more));
       pages = left.pages ++ new;
-      pages_left = left_grows_by committed listener.gaps listener.place listener.skip left.pages more left.pages_left are next next_is;
+      pages_left = left_grows_by committed listener.names listener.place listener.skip left.pages more left.pages_left are next next_is;
       joined = ap (λ l. l ++ new) left.joined ∙ append_assoc part (listener.text ++ left.pages) new
           ∙ ap (λ l. part ++ l) (append_assoc listener.text left.pages new)
           ∙ ap (λ l. l ++ (listener.text ++ (left.pages ++ new)))
@@ -96,5 +96,5 @@ listener_grows_by committed listener rest more left are next next_is =
 pub listener_grows : (committed : List ℕ) (listener : ListenerState) (rest : List ℕ) (more : List Page) → IsLeft committed listener rest →
     AllByRecursion IsPage more → (new : List ℕ) × IsLeft (committed ++ bytes_of_pages more) listener (rest ++ new)
 listener_grows committed listener rest more left are =
-    let next = after_grows (gap_in listener.gaps) left.pages_left.pages more in
+    let next = after_grows (name_in listener.names) left.pages_left.pages more in
     (bytes_of_pages next.0, listener_grows_by committed listener rest more left are next.0 next.1)

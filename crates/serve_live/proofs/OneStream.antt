@@ -82,7 +82,7 @@ go_on_heard gaps serial old new (page ∷ pages) own fits some_old some_new open
     let heard : Page = heard_page gaps page in
     let is : page.sequence ≡ number_behind new + gaps serial = here.sequence some_old ∙ number in
     let by : gaps page.serial ≡ gaps serial = ap gaps own.0 in
-    let less : page.sequence - gaps page.serial ≡ number_behind new = omega (arith, is, by) in
+    let less : 0 + (page.sequence - gaps page.serial) ≡ number_behind new = omega (arith, is, by) in
     let leaves : ends_open (joined_lacing (new ++ heard ∷ [])) ≡ ends_open (joined_lacing (old ++ page ∷ [])) =
     ap ends_open (lacing_push new heard) ∙ open_with (joined_lacing new) page.lacing
     ∙ ap (λ b. cond (nat_eq (length page.lacing) 0) (not (not b)) (ends_open page.lacing)) opens

@@ -8,8 +8,8 @@ use Rattle.std.proofs.lemmas.List.Folds.{list_any-append}
 use Rattle.ogg_page.specs.Page.{page_bytes, page_size, bytes_of_pages}
 use Rattle.ogg_page.specs.LogicalStream.{is_first}
 use Rattle.ogg_page.specs.PageLaws.{bytes_both, length-page_bytes, pages_both}
-use Rattle.serve_live.specs.Pulling.{HasPassed, gaps_from}
-use Rattle.serve_live.specs.declared.gaps.StreamGap.{StreamGap}
+use Rattle.serve_live.specs.Pulling.{HasPassed, names_from}
+use Rattle.serve_live.specs.declared.names.StreamName.{StreamName}
 use Rattle.serve_live.specs.declared.pages.PageLeft.{PageLeft}
 use Rattle.serve_live.proofs.NextPage.{HasNext, IsAfter}
 use Rattle.std.proofs.Math.Bool.{or-false, or_assoc}
@@ -23,7 +23,7 @@ none_passed committed left after place anew = record {
   anew = anew ∙ sym (or-false left.anew);
 }
 
-pub passed_some : (committed : List ℕ) (kept : List StreamGap) (rest : List ℕ) (left after : PageLeft) (begins : Bool) (n size : ℕ) →
+pub passed_some : (committed : List ℕ) (kept : List StreamName) (rest : List ℕ) (left after : PageLeft) (begins : Bool) (n size : ℕ) →
     (h : HasNext committed kept left.place left.skip rest) → left.skip + n ≤ size → size ≡ page_size h.page → begins ≡ is_first h.page →
     IsAfter left after begins size n → HasPassed committed left after
 passed_some committed kept rest left after begins n size h le size_is begins_is a =
@@ -60,7 +60,7 @@ passed_on committed first second third a b = record {
       ∙ ap (λ t. first.anew || t) (sym (list_any-append is_first a.passed b.passed));
 }
 
-pub from_both : (gaps : List StreamGap) (a b : Bool) → gaps_from gaps (a || b) ≡ gaps_from (gaps_from gaps a) b
-from_both gaps true true = refl
-from_both gaps true false = refl
-from_both gaps false b = refl
+pub from_both : (names : List StreamName) (a b : Bool) → names_from names (a || b) ≡ names_from (names_from names a) b
+from_both names true true = refl
+from_both names true false = refl
+from_both names false b = refl

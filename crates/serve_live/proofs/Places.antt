@@ -18,7 +18,7 @@ use Rattle.link_chain.specs.Laws.Grow.{all_weaker, stream_some, serials_same}
 use Rattle.link_chain.specs.Laws.StateBehind.{last_is, map-map}
 use Rattle.link_chain.specs.declared.stream_state.StreamState.{StreamState}
 use Rattle.page_heads.specs.Fronts.{facts_of}
-use Rattle.serve_live.specs.Joined.{joined_stream, joined_streams, as_of_now, ends_of, end_of, ends_unheard, gap_between, IsNew}
+use Rattle.serve_live.specs.Joined.{joined_stream, joined_streams, as_of_now, ends_of, end_of, ends_unheard, name_between, IsNew}
 use Rattle.serve_live.specs.Hearing.{IsHearing}
 use Rattle.serve_live.specs.Listening.{ListenerState}
 use Rattle.serve_live.specs.Places.{IsPlaceIn}
@@ -26,7 +26,7 @@ use Rattle.serve_live.specs.declared.listener.JoinPlace.{JoinPlace}
 use Rattle.serve_live.specs.Joining.{AreLater}
 use Rattle.serve_live.specs.Live.{IsMomentOf, Moment}
 use Rattle.serve_live.specs.Noting.{noted, stream_by}
-use Rattle.serve_live.specs.declared.gaps.StreamGap.{StreamGap}
+use Rattle.serve_live.specs.declared.names.StreamName.{StreamName}
 use Rattle.serve_live.specs.declared.joined.JoinedStream.{JoinedStream}
 use Rattle.serve_live.specs.declared.joined.LinkPart.{LinkPart}
 use Rattle.serve_live.specs.declared.joined.LinkPart.TheVariants.{Beginning, Since}
@@ -207,22 +207,22 @@ ends_alike f g (s ∷ serials) h =
     first_true true b c e = refl
     first_true false b c e = cc
 
-abbrev gap_of : ℕ → ℕ → StreamGap
-gap_of serial gap = record { serial = serial; gap = gap }
+abbrev with_gap : ℕ → ℕ → StreamName
+with_gap serial gap = record { serial = serial; name = serial; less = gap; more = 0 }
 
-gaps_alike : (f g : ℕ → JoinedStream) (serials : List ℕ) → AllByRecursion (λ s. AreAlike (f s) (g s)) serials → map gap_between (map f serials) ≡ map gap_between (map g serials)
-gaps_alike f g [] h = refl
-gaps_alike f g (s ∷ serials) h =
+names_alike : (f g : ℕ → JoinedStream) (serials : List ℕ) → AllByRecursion (λ s. AreAlike (f s) (g s)) serials → map name_between (map f serials) ≡ map name_between (map g serials)
+names_alike f g [] h = refl
+names_alike f g (s ∷ serials) h =
     let a : AreAlike (f s) (g s) = h.0 in
-    ap (λ n. gap_of n ((f s).next - (f s).begun_next) ∷ map gap_between (map f serials)) a.serial
-    ∙ ap (λ n. gap_of (g s).serial (n - (f s).begun_next) ∷ map gap_between (map f serials)) a.next
-    ∙ ap (λ n. gap_of (g s).serial ((g s).next - n) ∷ map gap_between (map f serials)) a.begun_next
-    ∙ ap (λ l. gap_between (g s) ∷ l) (gaps_alike f g serials h.1)
+    ap (λ n. with_gap n ((f s).next - (f s).begun_next) ∷ map name_between (map f serials)) a.serial
+    ∙ ap (λ n. with_gap (g s).serial (n - (f s).begun_next) ∷ map name_between (map f serials)) a.next
+    ∙ ap (λ n. with_gap (g s).serial ((g s).next - n) ∷ map name_between (map f serials)) a.begun_next
+    ∙ ap (λ l. name_between (g s) ∷ l) (names_alike f g serials h.1)
 
 -- The streams that are noted are as good as those of the moment.
 pub record TellsMoment (moment : Moment) (streams : List JoinedStream) : Type 0 where
   pub ends : ends_of streams ≡ ends_of (joined_streams moment)
-  pub gaps : map gap_between streams ≡ map gap_between (joined_streams moment)
+  pub names : map name_between streams ≡ map name_between (joined_streams moment)
 
 pub streams_tell : (moment : Moment) (since : List Page) (states : List StreamState) (streams : List JoinedStream) → IsLink (moment.begin ++ (moment.passed ++ since)) →
     AreLater (moment.passed ++ since) → states ≡ map (state_of (moment.begin ++ (moment.passed ++ since))) (serials_of (moment.begin ++ (moment.passed ++ since))) →
@@ -242,7 +242,7 @@ streams_tell moment since states streams l later states_are streams_are =
     (λ s there. stream_alike moment since s l there) serials (listed serials) in
     record {
       ends = ap ends_of all ∙ ends_alike (noted_stream moment since) (joined_stream moment) serials each;
-      gaps = ap (map gap_between) all ∙ gaps_alike (noted_stream moment since) (joined_stream moment) serials each;
+      names = ap (map name_between) all ∙ names_alike (noted_stream moment since) (joined_stream moment) serials each;
     }
 
 -- ---- where the pages stand
@@ -320,7 +320,7 @@ joins_hearing committed links moment place streams listener l at tells new =
       begin_place = new.begin_place ∙ at.begin_is;
       begin_left = new.begin_left ∙ omega (arith, at.begun_is);
       text = new.text ∙ ap bytes_of_pages tells.ends;
-      gaps = new.gaps ∙ tells.gaps;
+      names = new.names ∙ tells.names;
       place = new.place ∙ boundary;
       skip = new.skip;
     } in

@@ -5,8 +5,8 @@ use Rattle.std.proofs.lemmas.List.{take-take, drop-take}
 use Rattle.std.proofs.Math.Seq.{take-append-add}
 use Rattle.ogg_page.specs.Laws.Halves.{Halves, halves}
 use Rattle.serve_live.specs.Listening.{ArePagesLeft, Gives, part_at}
-use Rattle.serve_live.specs.Pulling.{ArePulled, GivesBehind, gaps_kept}
-use Rattle.serve_live.specs.declared.gaps.StreamGap.{StreamGap}
+use Rattle.serve_live.specs.Pulling.{ArePulled, GivesBehind, names_kept}
+use Rattle.serve_live.specs.declared.names.StreamName.{StreamName}
 use Rattle.serve_live.specs.declared.pages.PageLeft.{PageLeft}
 
 -- the pages that were pulled are as many as go in
@@ -31,11 +31,11 @@ filled pages size h (inr all) le some = record {
 pub two_parts : (a b : List ℕ) (m n : ℕ) → m ≡ length a → take (m + n) (a ++ b) ≡ a ++ take n b
 two_parts a b m n is = ap (λ k. take (k + n) (a ++ b)) is ∙ take-append-add a b n
 
-pub gives_behind : (committed text pages : List ℕ) (gaps : List StreamGap) (after : PageLeft) (size told heard : ℕ) (front room now : List ℕ) →
+pub gives_behind : (committed text pages : List ℕ) (names : List StreamName) (after : PageLeft) (size told heard : ℕ) (front room now : List ℕ) →
     told ≡ min (length text) size → front ≡ take size text → now ≡ front ++ room →
-    ArePulled committed pages gaps after heard room → (heard ≡ size - told) ⊎ (heard ≡ length pages) → heard ≤ size - told →
-    GivesBehind committed gaps text pages size now told heard after
-gives_behind committed text pages gaps after size told heard front room now told_is front_is now_is b full le =
+    ArePulled committed pages names after heard room → (heard ≡ size - told) ⊎ (heard ≡ length pages) → heard ≤ size - told →
+    GivesBehind committed names text pages size now told heard after
+gives_behind committed text pages names after size told heard front room now told_is front_is now_is b full le =
     let h : Halves text pages size told = halves text pages size told told_is in
     let f : Filled pages (size - told) heard = filled pages (size - told) heard full le b.some in
     let len : length front ≡ told = ap length front_is ∙ grind (arith, told_is, length-take) in
@@ -45,7 +45,7 @@ gives_behind committed text pages gaps after size told heard front room now told
       given = ap (take (told + heard)) now_is ∙ two_parts front room told heard (sym len) ∙ ap (λ l. l ++ take heard room) front_is
           ∙ ap (λ l. take size text ++ l) (b.taken ∙ f.taken) ∙ sym h.given;
       rest = h.left;
-      left = subst (ArePagesLeft committed (gaps_kept gaps after) after.place after.skip) f.left b.left_is;
+      left = subst (ArePagesLeft committed (names_kept names after) after.place after.skip) f.left b.left_is;
     }
 
 -- ---- a part of the file, and then both
@@ -65,12 +65,12 @@ back_of_part : (xs : List ℕ) (count begun : ℕ) → begun ≤ count → drop 
 back_of_part xs count begun le =
     ap (λ k. drop begun (take k xs)) (let e : count ≡ begun + (count - begun) = omega (arith, le) in e) ∙ drop-take begun (count - begun) xs
 
-pub pulled_all : (committed rest : List ℕ) (place count : ℕ) (text pages : List ℕ) (gaps : List StreamGap) (after : PageLeft) (size begun told heard : ℕ) (front room now : List ℕ) →
+pub pulled_all : (committed rest : List ℕ) (place count : ℕ) (text pages : List ℕ) (names : List StreamName) (after : PageLeft) (size begun told heard : ℕ) (front room now : List ℕ) →
     rest ≡ part_at place count committed ++ (text ++ pages) → place + count ≤ length committed → begun ≡ min count size → front ≡ part_at place begun committed →
-    now ≡ front ++ room → GivesBehind committed gaps text pages (size - begun) room told heard after →
+    now ≡ front ++ room → GivesBehind committed names text pages (size - begun) room told heard after →
     Gives committed rest size now (begun + told + heard)
-    (record { begin_place = place + begun; begin_left = count - begun; text = drop told text; gaps = gaps_kept gaps after; place = after.place; skip = after.skip })
-pulled_all committed rest place count text pages gaps after size begun told heard front room now rest_is inside begun_is front_is now_is b =
+    (record { begin_place = place + begun; begin_left = count - begun; text = drop told text; names = names_kept names after; place = after.place; skip = after.skip })
+pulled_all committed rest place count text pages names after size begun told heard front room now rest_is inside begun_is front_is now_is b =
     let bytes : List ℕ = drop place committed in
     let part : List ℕ = part_at place count committed in
     let there : count ≤ length bytes = omega (arith, inside, length-drop place committed) in

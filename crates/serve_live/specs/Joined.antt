@@ -7,7 +7,7 @@ use Rattle.link_chain.specs.declared.stream_state.StreamState.{StreamState}
 use Rattle.link_chain.specs.Links.{pages_with, serials_of, has_ended}
 use Rattle.serve_live.specs.Listening.{ListenerState}
 use Rattle.serve_live.specs.Live.{Moment, begin_place}
-use Rattle.serve_live.specs.declared.gaps.StreamGap.{StreamGap}
+use Rattle.serve_live.specs.declared.names.StreamName.{StreamName}
 use Rattle.serve_live.specs.declared.joined.JoinedStream.{JoinedStream}
 
 -- a stream of the link, at its beginning and at the moment
@@ -45,16 +45,16 @@ abbrev pub as_of_now : StreamState → JoinedStream
 as_of_now state =
     record { serial = state.serial; begun_next = 0; begun_ended = false; next = state.next_sequence; position = state.last_position; ended = state.ended }
 
--- how many numbers of a stream aren't heard
-abbrev pub gap_between : JoinedStream → StreamGap
-gap_between stream = record { serial = stream.serial; gap = stream.next - stream.begun_next }
+-- a stream is heard without the numbers of the pages that were passed
+abbrev pub name_between : JoinedStream → StreamName
+name_between stream = record { serial = stream.serial; name = stream.serial; less = stream.next - stream.begun_next; more = 0 }
 
 -- The listener is new, and knows these streams: nothing was given to it.
 pub record IsNew (at len end : ℕ) (streams : List JoinedStream) (listener : ListenerState) : Type 0 where
   pub begin_place : listener.begin_place ≡ at
   pub begin_left : listener.begin_left ≡ len
   pub text : listener.text ≡ bytes_of_pages (ends_of streams)
-  pub gaps : listener.gaps ≡ map gap_between streams
+  pub names : listener.names ≡ map name_between streams
   pub place : listener.place ≡ end
   pub skip : listener.skip ≡ 0
 

@@ -1,9 +1,10 @@
 pub mod Boundaries
 pub mod Commands
-pub mod Gaps
+pub mod Names
 pub mod Heads
 pub mod Heard
 pub mod Hearing
+pub mod Following
 pub mod Joined
 pub mod Joining
 pub mod Listening
@@ -12,6 +13,7 @@ pub mod Noting
 pub mod Places
 pub mod JoinFault
 pub mod Pulling
-pub mod Renumbering
+pub mod Renaming
+pub mod RenamingLaws
 pub mod Linear
 pub mod Packets

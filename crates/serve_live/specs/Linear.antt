@@ -14,7 +14,7 @@ use Rattle.link_chain.specs.Laws.LastLink.{all_split}
 use Rattle.page_checksum.specs.Laws.Division.{zeros, length-add, add_parts, add-zeros, remainder-add, remainder-more, remainder-zeros}
 use Rattle.page_checksum.specs.Laws.BitNumbers.{number_lt, number-add, length-bits_of, number-bits_of, same_number}
 use Rattle.page_checksum.specs.Laws.ByteStep.{left_of, length-left_of}
-use Rattle.serve_live.specs.Renumbering.{front_of, back_of, xor_bytes}
+use Rattle.serve_live.specs.Renaming.{front_of, back_of, xor_bytes}
 
 -- ---- bits
 pub bits-xor : (n x y : ℕ) → x < 2 ^ n → y < 2 ^ n → bits_of n (bit_xor x y) ≡ add (bits_of n x) (bits_of n y)

@@ -3,9 +3,9 @@ use Rattle.std.specs.Prelude.{◌≡◌, ℕ, ◌+◌, ◌<◌, ◌≤◌, ◌&&
 pub use Rattle.ogg_page.specs.Window.{HasFailed}
 use Rattle.std.specs.List.{AllByRecursion}
 use Rattle.ogg_page.specs.Page.{Page, IsPage, page_size, bytes_of_pages}
-use Rattle.serve_live.specs.Heard.{heard_after}
-use Rattle.serve_live.specs.Gaps.{gap_in}
-use Rattle.serve_live.specs.declared.gaps.StreamGap.{StreamGap}
+use Rattle.serve_live.specs.Heard.{named_after}
+use Rattle.serve_live.specs.Names.{name_in}
+use Rattle.serve_live.specs.declared.names.StreamName.{StreamName}
 
 -- this many of the bytes, from this place on
 abbrev pub part_at : ℕ → ℕ → List ℕ → List ℕ
@@ -19,14 +19,14 @@ IsWithin skip (page ∷ pages) = skip < page_size page
 -- ---- the pages since the moment of joining
 -- A page begins at the place, or the committed bytes end there. The rest is what is heard of the pages from there on,
 -- after the bytes that were heard of the first of them.
-pub record ArePagesLeft (committed : List ℕ) (gaps : List StreamGap) (place skip : ℕ) (rest : List ℕ) : Type 0 where
+pub record ArePagesLeft (committed : List ℕ) (names : List StreamName) (place skip : ℕ) (rest : List ℕ) : Type 0 where
   pub front : List ℕ
   pub pages : List Page
   pub split : committed ≡ front ++ bytes_of_pages pages
   pub place_is : length front ≡ place
   pub are_pages : AllByRecursion IsPage pages
   pub inside : IsWithin skip pages
-  pub rest_is : rest ≡ drop skip (bytes_of_pages (heard_after (gap_in gaps) pages))
+  pub rest_is : rest ≡ drop skip (bytes_of_pages (named_after (name_in names) pages))
 
 -- ---- the whole
 pub record ListenerState : Type 0 where
@@ -35,8 +35,8 @@ pub record ListenerState : Type 0 where
   pub begin_left : ℕ
   -- what isn't heard of the pages that end streams
   pub text : List ℕ
-  -- the streams' gaps, until another link begins
-  pub gaps : List StreamGap
+  -- how the streams are heard, until another link begins
+  pub names : List StreamName
   -- where the page stands that is heard next, and how many of its bytes were heard
   pub place : ℕ
   pub skip : ℕ
@@ -45,7 +45,7 @@ pub record ListenerState : Type 0 where
 pub record IsLeft (committed : List ℕ) (listener : ListenerState) (rest : List ℕ) : Type 0 where
   pub begins : listener.begin_place + listener.begin_left ≤ length committed
   pub pages : List ℕ
-  pub pages_left : ArePagesLeft committed listener.gaps listener.place listener.skip pages
+  pub pages_left : ArePagesLeft committed listener.names listener.place listener.skip pages
   pub joined : rest ≡ part_at listener.begin_place listener.begin_left committed ++ (listener.text ++ pages)
 
 -- nothing of this is left, if the committed bytes end there

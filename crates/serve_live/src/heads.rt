@@ -2,15 +2,15 @@
 ghost use Rattle.std.specs.Prelude.{◌≡◌, ◌+◌, ◌^◌, ◌<◌, ◌≤◌, drop, IfOk, IsErr};
 ghost use Rattle.ogg_page.specs.Page.{Page};
 ghost use Rattle.ogg_page.specs.Window.{KeepsSource};
-ghost use Rattle.serve_live.specs.Gaps.{gap_in};
+ghost use Rattle.serve_live.specs.Names.{name_in};
 ghost use Rattle.serve_live.specs.Listening.{HasFailed};
 ghost use Rattle.ogg_page.specs.Head.{Stands};
 ghost use Rattle.page_heads.specs.Fronts.{IsFrontOf};
 ghost use Rattle.serve_live.specs.Heads.{IsHeadOf};
 
-use crate::checksums::checksum_change;
-use crate::gaps::{StreamGap, gap_in, number_without};
-use ogg_page::{PageSource, SourceFault, put_sequence};
+use crate::checksums::names_change;
+use crate::names::{StreamName, name_in, number_heard};
+use ogg_page::{PageSource, SourceFault, put_names};
 use page_heads::{LONGEST_HEAD, PageFront, read_front};
 
 /// The head of a page as it is heard, with the lacing values.
@@ -22,19 +22,21 @@ pub struct HeardHead {
     pub size: u64,
 }
 
-/// The head with the number and the checksum that are heard.
-pub fn heard_head(front: PageFront, gaps: &[StreamGap]) -> HeardHead
+/// The head with the serial, the number and the checksum that are heard.
+pub fn heard_head(front: PageFront, names: &[StreamName]) -> HeardHead
     requires { (27 ≤ front.facts.len) × (front.facts.len ≤ front.facts.size) × (front.facts.len ≤ 282) }
-    ensures told { (page : Page) → IsFrontOf page front → IsHeadOf (gap_in gaps.now) page result }
+    ensures told { (page : Page) → IsFrontOf page front → IsHeadOf (name_in names.now) page result }
     ensures same { (result.len ≡ front.facts.len) × (result.size ≡ front.facts.size) }
 {
     let facts = front.facts;
     let mut bytes = front.bytes;
-    let gap = gap_in(gaps, facts.serial);
-    if !facts.begins && gap > 0 {
-        let number = number_without(facts.number, gap);
-        let change = checksum_change(facts.number, number, facts.size);
-        put_sequence(&mut bytes, number, facts.checksum ^ change);
+    if !facts.begins {
+        let stream = name_in(names, facts.serial);
+        let number = number_heard(stream, u64::from(facts.number));
+        if stream.name != facts.serial || number != facts.number {
+            let change = names_change(facts.serial, facts.number, stream.name, number, facts.size);
+            put_names(&mut bytes, stream.name, number, facts.checksum ^ change);
+        }
     }
     HeardHead {
         bytes,
@@ -48,10 +50,10 @@ pub fn heard_head(front: PageFront, gaps: &[StreamGap]) -> HeardHead
 pub fn read_head<S: PageSource>(
     source: &mut S,
     place: u64,
-    gaps: &[StreamGap],
+    names: &[StreamName],
 ) -> Result<HeardHead, SourceFault>
     ensures read { (page : Page) → S.is_honest source.old → Stands (drop place (S.bytes source.old)) page
-        → IfOk result (λ head. IsHeadOf (gap_in gaps.now) page head) }
+        → IfOk result (λ head. IsHeadOf (name_in names.now) page head) }
     ensures cause { (page : Page) → S.is_honest source.old → Stands (drop place (S.bytes source.old)) page → IsErr result
         → HasFailed (S.failures source.old) (S.failures source.new) }
     ensures inside { IfOk result (λ head. (place + head.size ≤ S.size source.old) × (place + head.size < 2 ^ 64)) }
@@ -60,7 +62,7 @@ pub fn read_head<S: PageSource>(
     ensures source { KeepsSource S.bytes S.is_honest S.size S.only_reads source.old source.new }
 {
     match read_front(source, place) {
-        Ok(front) => Ok(heard_head(front, gaps)),
+        Ok(front) => Ok(heard_head(front, names)),
         Err(fault) => Err(fault),
     }
 }

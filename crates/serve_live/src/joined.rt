@@ -4,10 +4,10 @@ ghost use Rattle.std.specs.List.{AllByRecursion};
 ghost use Rattle.ogg_page.specs.Page.{Page, IsPage, bytes_of_pages};
 ghost use Rattle.ogg_page.specs.Window.{KeepsSource};
 ghost use Rattle.serve_live.specs.Listening.{HasFailed};
-ghost use Rattle.serve_live.specs.Joined.{as_of_now, gap_between};
+ghost use Rattle.serve_live.specs.Joined.{as_of_now, name_between};
 ghost use Rattle.serve_live.specs.Noting.{noted, stream_with};
 
-use crate::gaps::StreamGap;
+use crate::names::StreamName;
 use link_chain::StreamState;
 use ogg_page::{Memory, PageSource, SourceFault};
 use page_heads::{PageFacts, read_front};
@@ -123,24 +123,26 @@ pub fn note_pages<S: PageSource>(
     Ok(())
 }
 
-/// How many numbers of the stream aren't heard.
-fn gap_between(stream: &JoinedStream) -> StreamGap
-    ensures { result ≡ gap_between stream.now }
+/// The stream is heard without the numbers of the pages that were passed.
+fn name_between(stream: &JoinedStream) -> StreamName
+    ensures { result ≡ name_between stream.now }
 {
-    StreamGap {
+    StreamName {
         serial: stream.serial,
-        gap: stream.next.saturating_sub(stream.begun_next),
+        name: stream.serial,
+        less: stream.next.saturating_sub(stream.begun_next),
+        more: 0,
     }
 }
 
-/// The streams' gaps.
-pub fn gaps_of(alloc: Global, streams: &[JoinedStream]) -> Result<Vec<StreamGap>, Memory>
-    ensures gaps { IfOk result (λ gaps. gaps.items ≡ map gap_between streams.now) }
+/// How the streams are heard.
+pub fn names_of(alloc: Global, streams: &[JoinedStream]) -> Result<Vec<StreamName>, Memory>
+    ensures names { IfOk result (λ names. names.items ≡ map name_between streams.now) }
     ensures full { OnErr result (0 < length streams.now) }
 {
-    let mut gaps = Vec::new(alloc);
+    let mut names = Vec::new(alloc);
     for stream in streams {
-        gaps.push(gap_between(stream))?;
+        names.push(name_between(stream))?;
     }
-    Ok(gaps)
+    Ok(names)
 }

@@ -2,7 +2,7 @@
 ghost use Rattle.std.specs.Prelude.{◌≡◌, ◌++◌, [], ◌∷◌, ◌<◌, ◌^◌, ℕ, List, bit_xor, length, take, true, Some};
 ghost use Rattle.std.specs.List.{AllByRecursion};
 ghost use Rattle.byteorder.specs.Endian.{little_bytes};
-ghost use Rattle.ogg_page.specs.Page.{Page, IsPage, bytes_of_pages, page_bytes, page_size};
+ghost use Rattle.ogg_page.specs.Page.{Page, IsPage, bytes_of_pages, page_bytes};
 ghost use Rattle.link_chain.specs.Links.{AreLinks, IsLink, flattened};
 ghost use Rattle.link_chain.specs.Recording.{Stream, Recording, HoldsLink, HoldsLinks};
 ghost use Rattle.link_chain.specs.ChainState.{chain_state_of, is_open};
@@ -18,11 +18,14 @@ ghost use Rattle.serve_live.specs.declared.listener.JoinPlace.{JoinPlace as Join
 ghost use Rattle.serve_live.specs.Heard.{heard, heard_bytes, heard_link};
 ghost use Rattle.serve_live.specs.Joining.{AreLater, IsJoined, heard_streams};
 ghost use Rattle.serve_live.specs.Listening.{Gives, IsLeft, ListenerState, has_heard_all};
+ghost use Rattle.serve_live.specs.Following.{GoesOn, IsFollowing};
 ghost use Rattle.serve_live.specs.Hearing.{IsHearing};
+ghost use Rattle.serve_live.specs.Names.{name_in};
+ghost use Rattle.serve_live.specs.declared.names.StreamName.{StreamName as StreamNameOf};
 ghost use Rattle.serve_live.specs.Joined.{IsNew, IsNewAt};
 ghost use Rattle.serve_live.specs.Pulling.{HasMoved};
 ghost use Rattle.serve_live.specs.Live.{IsLive, IsMomentOf, Moment};
-ghost use Rattle.serve_live.specs.Renumbering.{renumbered, checksum_change, front_of, back_of};
+ghost use Rattle.serve_live.specs.Renaming.{HasSameRest, back_of, fields_change, fields_of, head_of, names_of, page_change, retold};
 ghost use Rattle.ogg_page.specs.Head.{checksum_in};
 
 use chain_rules::commands_add_their_packets;
@@ -143,16 +146,35 @@ pub fn listeners_hear_what_they_should()
         → IsHearing moment committed new (given ++ take count buffer) }
 {}
 
-/// A page with another number has the bytes that it had, but for the number and the checksum; and the new checksum
-/// follows from the old one, the two numbers and the page's size, so that no other byte need be read.
-pub fn renumbering_is_exact()
-    ensures old { (page : Page) → page_bytes page
-        ≡ front_of page ++ (little_bytes 4 page.sequence ++ (little_bytes 4 (checksum_in page) ++ back_of page)) }
-    ensures new { (number : ℕ) (page : Page) → IsPage page → number < 2 ^ 32 → page_bytes (renumbered number page)
-        ≡ front_of page ++ (little_bytes 4 number ++ (little_bytes 4 (bit_xor (checksum_in page)
-        (checksum_change page.sequence number (page_size page))) ++ back_of page)) }
+/// A listener that goes on in the next file hears on what it should: while more is committed, and by each pull, as
+/// `Listener::pull` says it. What it was given there is at any time the front of the pages from where the link goes on,
+/// under the serials and with the numbers under which the link was heard before.
+pub fn listeners_hear_on()
+    ensures begins { (names : List StreamNameOf) (place : ℕ) (before : List ℕ) (after : List Page) (listener : ListenerState)
+        → length before ≡ place → AllByRecursion IsPage after → GoesOn place names listener
+        → IsFollowing [] (name_in names) place (before ++ bytes_of_pages after) listener [] }
+    ensures grows { (front : List ℕ) (names : ℕ → StreamNameOf) (place : ℕ) (committed : List ℕ) (listener : ListenerState) (given : List ℕ)
+        (more : List Page) → IsFollowing front names place committed listener given → AllByRecursion IsPage more
+        → IsFollowing front names place (committed ++ bytes_of_pages more) listener given }
+    ensures pulls { (front : List ℕ) (names : ℕ → StreamNameOf) (place : ℕ) (committed : List ℕ) (old new : ListenerState) (given : List ℕ)
+        (size count : ℕ) (buffer : List ℕ) (following : IsFollowing front names place committed old given)
+        → Gives committed following.rest size buffer count new → HasMoved committed old new
+        → IsFollowing front names place committed new (given ++ take count buffer) }
 {}
 
+/// A page whose fields before the checksum are others has a checksum that follows from the old one, the bits in which
+/// the fields differ, and the page's size: no byte of its lacing values or its body counts.
+pub fn renaming_is_exact()
+    ensures fields { (old new : Page) → IsPage old → IsPage new → HasSameRest old new → page_bytes new
+        ≡ fields_of new ++ (little_bytes 4 (bit_xor (checksum_in old) (fields_change old new)) ++ back_of old) }
+    // The same of a page under another serial and with another number.
+    ensures old { (page : Page) → page_bytes page
+        ≡ head_of page ++ (names_of page.serial page.sequence ++ (little_bytes 4 (checksum_in page) ++ back_of page)) }
+    ensures new { (serial number : ℕ) (page : Page) → IsPage page → serial < 2 ^ 32 → number < 2 ^ 32
+        → page_bytes (retold serial number page)
+        ≡ head_of page ++ (names_of serial number ++ (little_bytes 4 (bit_xor (checksum_in page)
+        (page_change page serial number)) ++ back_of page)) }
+{}
 /// Of a listener that has heard all that is committed nothing is left to be heard.
 pub fn nothing_is_left_once_all_is_heard()
     ensures { (committed rest : List ℕ) (listener : ListenerState) → has_heard_all (length committed) listener ≡ true

@@ -3,7 +3,8 @@ ghost use Rattle.std.specs.Prelude.{◌≡◌, ◌≤◌, ◌<◌, ◌-◌, ℕ,
 ghost use Rattle.ogg_page.specs.Page.{Page, bytes_of_pages};
 ghost use Rattle.link_chain.specs.ChainState.{chain_state_of};
 ghost use Rattle.link_chain.specs.Links.{AreLinks};
-ghost use Rattle.serve_live.specs.Gaps.{gap_in};
+ghost use Rattle.serve_live.specs.Names.{gap_in};
+ghost use Rattle.serve_live.specs.Following.{GoesOn, names_on};
 ghost use Rattle.serve_live.specs.Hearing.{IsHearing};
 ghost use Rattle.serve_live.specs.Joined.{IsNew, ends_of};
 ghost use Rattle.serve_live.specs.Live.{Moment};
@@ -15,8 +16,8 @@ ghost use Rattle.serve_live.specs.Listening.{Gives, HasFailed, IsLeft, has_heard
 ghost use Rattle.serve_live.specs.Pulling.{HasMoved};
 
 use crate::fault::JoinFault;
-use crate::gaps::{StreamGap, gap_in};
-use crate::joined::{JoinedStream, LinkPart, gaps_of, note_pages, streams_of_now};
+use crate::joined::{JoinedStream, LinkPart, names_of, note_pages, streams_of_now};
+use crate::names::{StreamName, name_in, names_on};
 use crate::pages::PageLeft;
 use crate::pieces::{pull_behind, pull_part};
 use link_chain::StreamState;
@@ -42,7 +43,7 @@ pub struct Listener {
     begin_left: u64,
     text: Vec<u8>,
     sent: usize,
-    gaps: Vec<StreamGap>,
+    names: Vec<StreamName>,
     left: PageLeft,
 }
 
@@ -56,7 +57,7 @@ impl Model for Listener {
       begin_place = l.begin_place;
       begin_left = l.begin_left;
       text = drop l.sent l.text.items;
-      gaps = if l.left.anew then [] else l.gaps.items;
+      names = if l.left.anew then [] else l.names.items;
       place = l.left.place;
       skip = l.left.skip;
     } };
@@ -136,13 +137,13 @@ fn new_listener(
     ensures full { OnErr result (0 < length streams.now) }
 {
     let text = ends_of(alloc, streams)?;
-    let gaps = gaps_of(alloc, streams)?;
+    let names = names_of(alloc, streams)?;
     Ok(Listener {
         begin_place: place.begin,
         begin_left: place.begun.saturating_sub(place.begin),
         text,
         sent: 0,
-        gaps,
+        names,
         left: PageLeft {
             place: place.boundary,
             skip: 0,
@@ -193,7 +194,7 @@ impl Listener {
             begin_left: 0,
             text: Vec::new(alloc),
             sent: 0,
-            gaps: Vec::new(alloc),
+            names: Vec::new(alloc),
             left: PageLeft {
                 place: end,
                 skip: 0,
@@ -202,15 +203,50 @@ impl Listener {
         }
     }
 
-    /// How many numbers of the stream with this serial aren't heard, until another link begins.
-    pub fn gap(&self, serial: u32) -> u64
-        ensures { result ≡ gap_in self.now.gaps serial }
+    /// A listener that hears on in the next file, in which the link goes on that this one has heard so far. `old` are the
+    /// streams that are open in its file, and `new` those that go on with them in the next, in order, as the pages leave
+    /// them with which the link begins there. These end at `begun`, and aren't heard: what follows is heard under the
+    /// serials that this listener has heard, and with the numbers that follow. Memory is taken for the streams alone.
+    pub fn go_on(
+        &self,
+        alloc: Global,
+        begun: u64,
+        old: &[StreamState],
+        new: &[StreamState],
+    ) -> Result<Listener, Memory>
+        ensures on { IfOk result (λ listener. GoesOn begun (names_on self.now.names old.now new.now) listener) }
+    {
+        let names = names_on(alloc, self.names_heard(), old, new)?;
+        Ok(Listener {
+            begin_place: begun,
+            begin_left: 0,
+            text: Vec::new(alloc),
+            sent: 0,
+            names,
+            left: PageLeft {
+                place: begun,
+                skip: 0,
+                anew: false,
+            },
+        })
+    }
+
+    /// The streams that aren't heard as they are.
+    fn names_heard(&self) -> &[StreamName]
+        ensures { result.now ≡ self.now.names }
     {
         if self.left.anew {
-            0
+            &[]
         } else {
-            gap_in(self.gaps.as_slice(), serial)
+            self.names.as_slice()
         }
+    }
+
+    /// How many numbers of the stream with this serial aren't heard, until another link begins.
+    pub fn gap(&self, serial: u32) -> u64
+        ensures { result ≡ gap_in self.now.names serial }
+    {
+        name_in(self.names_heard(), serial).less
     }
 
     /// Whether all is heard that is committed, up to `end`.
@@ -249,7 +285,7 @@ impl Listener {
             Ok(begun) => {
                 let (_, text) = self.text.as_slice().split_at(self.sent);
                 let (_, room) = buffer.split_at_mut(begun);
-                match pull_behind(source, end, text, self.gaps.as_slice(), self.left, room) {
+                match pull_behind(source, end, text, self.names.as_slice(), self.left, room) {
                     Ok((told, heard, left)) => {
                         self.begin_place += begun as u64;
                         self.begin_left -= begun as u64;

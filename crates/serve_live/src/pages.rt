@@ -4,11 +4,11 @@ ghost use Rattle.ogg_page.specs.Source.{HasCause};
 ghost use Rattle.ogg_page.specs.Window.{KeepsSource};
 ghost use Rattle.serve_live.specs.Listening.{HasFailed, part_at};
 ghost use Rattle.serve_live.specs.Heads.{IsHeadAt};
-ghost use Rattle.serve_live.specs.Pulling.{AreGiven, ArePulled, HasPassed, gaps_from};
+ghost use Rattle.serve_live.specs.Pulling.{AreGiven, ArePulled, HasPassed, names_from};
 ghost use Rattle.serve_live.specs.declared.pages.PageLeft.{PageLeft as PageLeftOf};
 
-use crate::gaps::StreamGap;
 use crate::heads::{HeardHead, heard_head, read_head};
+use crate::names::StreamName;
 use ogg_page::{PageSource, SourceFault};
 use page_heads::{LONGEST_HEAD, PageFront, facts_of};
 
@@ -92,11 +92,11 @@ fn give_head(head: &HeardHead, skip: u64, given: usize, buffer: &mut [u8]) -> us
     copy_on(behind, given, buffer)
 }
 
-/// The gaps that count: none once another link has begun.
-fn kept_gaps<'a>(gaps: &'a [StreamGap], anew: bool) -> &'a [StreamGap]
-    ensures { result.now ≡ gaps_from gaps.now anew }
+/// The names that count: none once another link has begun.
+fn kept_names<'a>(names: &'a [StreamName], anew: bool) -> &'a [StreamName]
+    ensures { result.now ≡ names_from names.now anew }
 {
-    if anew { &[] } else { gaps }
+    if anew { &[] } else { names }
 }
 
 /// Gives what goes in of the page at the place, whose head this is: bytes of the head, or of the body. It returns the count
@@ -112,15 +112,15 @@ fn give_on<S: PageSource>(
     requires skip { left.skip < head.now.size }
     requires some { (27 ≤ head.now.len) × (head.now.len ≤ head.now.size) × (head.now.len ≤ 282) }
     requires inside { (left.place + head.now.size ≤ S.size source.old) × (left.place + head.now.size < 2 ^ 64) }
-    ensures pulled { (gaps : List StreamGap) (committed more rest : List ℕ) → S.is_honest source.old
+    ensures pulled { (names : List StreamName) (committed more rest : List ℕ) → S.is_honest source.old
         → S.bytes source.old ≡ committed ++ more → left.place < length committed
-        → IsHeadAt (S.bytes source.old) left.place (gaps_from gaps left.anew) head.now
-        → ArePulled committed rest gaps left given buffer.old
-        → IfOk result (λ p. ArePulled committed rest gaps p.1 p.0 buffer.new) }
-    ensures passes { (gaps : List StreamGap) (committed more rest : List ℕ) → S.is_honest source.old
+        → IsHeadAt (S.bytes source.old) left.place (names_from names left.anew) head.now
+        → ArePulled committed rest names left given buffer.old
+        → IfOk result (λ p. ArePulled committed rest names p.1 p.0 buffer.new) }
+    ensures passes { (names : List StreamName) (committed more rest : List ℕ) → S.is_honest source.old
         → S.bytes source.old ≡ committed ++ more → left.place < length committed
-        → IsHeadAt (S.bytes source.old) left.place (gaps_from gaps left.anew) head.now
-        → ArePulled committed rest gaps left given buffer.old
+        → IsHeadAt (S.bytes source.old) left.place (names_from names left.anew) head.now
+        → ArePulled committed rest names left given buffer.old
         → IfOk result (λ p. HasPassed committed left p.1) }
     // As long as the page isn't over its head is the same.
     ensures stays { IfOk result (λ p. p.1.place ≡ left.place → (p.1.anew ≡ left.anew) × (p.1.skip < head.now.size)) }
@@ -154,26 +154,26 @@ fn give_on<S: PageSource>(
 /// given, and what is left then.
 fn pull_page<S: PageSource>(
     source: &mut S,
-    gaps: &[StreamGap],
+    names: &[StreamName],
     left: PageLeft,
     given: usize,
     buffer: &mut [u8],
 ) -> Result<(usize, PageLeft), SourceFault>
     requires room { given < length buffer.old }
     ensures pulled { (committed more rest : List ℕ) → S.is_honest source.old → S.bytes source.old ≡ committed ++ more
-        → left.place < length committed → ArePulled committed rest gaps.now left given buffer.old
-        → IfOk result (λ p. ArePulled committed rest gaps.now p.1 p.0 buffer.new) }
+        → left.place < length committed → ArePulled committed rest names.now left given buffer.old
+        → IfOk result (λ p. ArePulled committed rest names.now p.1 p.0 buffer.new) }
     ensures passes { (committed more rest : List ℕ) → S.is_honest source.old → S.bytes source.old ≡ committed ++ more
-        → left.place < length committed → ArePulled committed rest gaps.now left given buffer.old
+        → left.place < length committed → ArePulled committed rest names.now left given buffer.old
         → IfOk result (λ p. HasPassed committed left p.1) }
     ensures cause { (committed more rest : List ℕ) → S.is_honest source.old → S.bytes source.old ≡ committed ++ more
-        → left.place < length committed → ArePulled committed rest gaps.now left given buffer.old → IsErr result
+        → left.place < length committed → ArePulled committed rest names.now left given buffer.old → IsErr result
         → HasFailed (S.failures source.old) (S.failures source.new) }
     ensures further { IfOk result (λ p. (given < p.0) × (p.0 ≤ length buffer.old)) }
     ensures later { S.failures source.old ≤ S.failures source.new }
     ensures source { KeepsSource S.bytes S.is_honest S.size S.only_reads source.old source.new }
 {
-    let kept = kept_gaps(gaps, left.anew);
+    let kept = kept_names(names, left.anew);
     match read_head(source, left.place, kept) {
         Ok(head) => {
             if left.skip >= head.size {
@@ -197,7 +197,7 @@ fn pull_page<S: PageSource>(
 /// Gives the page that was read into the buffer behind what was given, if all of it stands there before the end: its head
 /// becomes the one that is heard. It returns the count of all bytes that were given, and what is left then.
 fn give_whole(
-    gaps: &[StreamGap],
+    names: &[StreamName],
     left: PageLeft,
     given: usize,
     end: usize,
@@ -207,8 +207,8 @@ fn give_whole(
     requires skip { left.skip ≡ 0 }
     requires place { left.place + (end - given) < 2 ^ 64 }
     ensures gives { (committed more rest : List ℕ) (start : PageLeftOf) → left.place + (end - given) ≤ length committed
-        → AreGiven committed more rest gaps.now start left given end buffer.old
-        → IfSome result (λ p. AreGiven committed more rest gaps.now start p.1 p.0 end buffer.new) }
+        → AreGiven committed more rest names.now start left given end buffer.old
+        → IfSome result (λ p. AreGiven committed more rest names.now start p.1 p.0 end buffer.new) }
     ensures further { IfSome result (λ p. (given < p.0) × (p.0 ≤ end) × (p.1.skip ≡ 0) × (p.1.place ≡ left.place + (p.0 - given))) }
     ensures none { result ≡ None → buffer.new ≡ buffer.old }
 {
@@ -219,7 +219,7 @@ fn give_whole(
     }
     let mut bytes = [0; LONGEST_HEAD];
     bytes.copy_from_slice(front);
-    let head = heard_head(PageFront { bytes, facts }, kept_gaps(gaps, left.anew));
+    let head = heard_head(PageFront { bytes, facts }, kept_names(names, left.anew));
     let (own, _) = head.bytes.split_at(head.len);
     copy_on(own, given, buffer);
     let after = left_after(left, head.begins, head.size, head.size);
@@ -229,7 +229,7 @@ fn give_whole(
 /// Gives the whole pages that were read into the buffer behind what was given, up to the end. It returns the count of all
 /// bytes that were given, and what is left then. The last bytes before the end, fewer than those of the longest head, stay.
 fn give_all(
-    gaps: &[StreamGap],
+    names: &[StreamName],
     start: PageLeft,
     before: usize,
     end: usize,
@@ -239,15 +239,15 @@ fn give_all(
     requires skip { start.skip ≡ 0 }
     requires place { start.place + (end - before) < 2 ^ 64 }
     ensures gives { (committed more rest : List ℕ) → start.place + (end - before) ≤ length committed
-        → AreGiven committed more rest gaps.now start start before end buffer.old
-        → AreGiven committed more rest gaps.now start result.1 result.0 end buffer.new }
+        → AreGiven committed more rest names.now start start before end buffer.old
+        → AreGiven committed more rest names.now start result.1 result.0 end buffer.new }
     ensures further { (before ≤ result.0) × (result.0 ≤ end) }
     ensures none { result.0 ≡ before → result.1 ≡ start }
 {
     let mut given = before;
     let mut left = start;
     'pages: while LONGEST_HEAD <= end - given {
-        match give_whole(gaps, left, given, end, buffer) {
+        match give_whole(names, left, given, end, buffer) {
             Some((count, after)) => {
                 given = count;
                 left = after;
@@ -263,17 +263,17 @@ fn give_all(
 fn pull_ahead<S: PageSource>(
     source: &mut S,
     end: u64,
-    gaps: &[StreamGap],
+    names: &[StreamName],
     left: PageLeft,
     given: usize,
     buffer: &mut [u8],
 ) -> (usize, PageLeft)
     requires room { given < length buffer.old }
     ensures pulled { (committed more rest : List ℕ) → S.is_honest source.old → S.bytes source.old ≡ committed ++ more
-        → length committed ≡ end → left.place < length committed → ArePulled committed rest gaps.now left given buffer.old
-        → ArePulled committed rest gaps.now result.1 result.0 buffer.new }
+        → length committed ≡ end → left.place < length committed → ArePulled committed rest names.now left given buffer.old
+        → ArePulled committed rest names.now result.1 result.0 buffer.new }
     ensures passes { (committed more rest : List ℕ) → S.is_honest source.old → S.bytes source.old ≡ committed ++ more
-        → length committed ≡ end → left.place < length committed → ArePulled committed rest gaps.now left given buffer.old
+        → length committed ≡ end → left.place < length committed → ArePulled committed rest names.now left given buffer.old
         → HasPassed committed left result.1 }
     ensures none { result.0 ≡ given → result.1 ≡ left }
     ensures further { (given ≤ result.0) × (result.0 ≤ length buffer.old) }
@@ -287,7 +287,7 @@ fn pull_ahead<S: PageSource>(
     let room = (buffer.len() - given) as u64;
     let count = (to - left.place).min(room) as usize;
     match read_on(source, left.place, count, given, buffer) {
-        Ok(()) => give_all(gaps, left, given, given + count, buffer),
+        Ok(()) => give_all(names, left, given, given + count, buffer),
         Err(_) => (given, left),
     }
 }
@@ -297,30 +297,30 @@ fn pull_ahead<S: PageSource>(
 fn pull_next<S: PageSource>(
     source: &mut S,
     end: u64,
-    gaps: &[StreamGap],
+    names: &[StreamName],
     left: PageLeft,
     given: usize,
     buffer: &mut [u8],
 ) -> Result<(usize, PageLeft), SourceFault>
     requires room { given < length buffer.old }
     ensures pulled { (committed more rest : List ℕ) → S.is_honest source.old → S.bytes source.old ≡ committed ++ more
-        → length committed ≡ end → left.place < length committed → ArePulled committed rest gaps.now left given buffer.old
-        → IfOk result (λ p. ArePulled committed rest gaps.now p.1 p.0 buffer.new) }
+        → length committed ≡ end → left.place < length committed → ArePulled committed rest names.now left given buffer.old
+        → IfOk result (λ p. ArePulled committed rest names.now p.1 p.0 buffer.new) }
     ensures passes { (committed more rest : List ℕ) → S.is_honest source.old → S.bytes source.old ≡ committed ++ more
-        → length committed ≡ end → left.place < length committed → ArePulled committed rest gaps.now left given buffer.old
+        → length committed ≡ end → left.place < length committed → ArePulled committed rest names.now left given buffer.old
         → IfOk result (λ p. HasPassed committed left p.1) }
     ensures cause { (committed more rest : List ℕ) → S.is_honest source.old → S.bytes source.old ≡ committed ++ more
-        → length committed ≡ end → left.place < length committed → ArePulled committed rest gaps.now left given buffer.old
+        → length committed ≡ end → left.place < length committed → ArePulled committed rest names.now left given buffer.old
         → IsErr result → HasFailed (S.failures source.old) (S.failures source.new) }
     ensures further { IfOk result (λ p. (given < p.0) × (p.0 ≤ length buffer.old)) }
     ensures later { S.failures source.old ≤ S.failures source.new }
     ensures source { KeepsSource S.bytes S.is_honest S.size S.only_reads source.old source.new }
 {
-    let (count, after) = pull_ahead(source, end, gaps, left, given, buffer);
+    let (count, after) = pull_ahead(source, end, names, left, given, buffer);
     if count > given {
         return Ok((count, after));
     }
-    pull_page(source, gaps, left, given, buffer)
+    pull_page(source, names, left, given, buffer)
 }
 
 /// Fills the buffer with what is heard of the pages up to the end, as far as either goes. It returns how many bytes
@@ -328,19 +328,19 @@ fn pull_next<S: PageSource>(
 pub fn pull_pages<S: PageSource>(
     source: &mut S,
     end: u64,
-    gaps: &[StreamGap],
+    names: &[StreamName],
     start: PageLeft,
     buffer: &mut [u8],
 ) -> Result<(usize, PageLeft), SourceFault>
     ensures pulled { (committed more rest : List ℕ) → S.is_honest source.old → S.bytes source.old ≡ committed ++ more
-        → length committed ≡ end → ArePulled committed rest gaps.now start 0 buffer.old
-        → IfOk result (λ p. ArePulled committed rest gaps.now p.1 p.0 buffer.new
+        → length committed ≡ end → ArePulled committed rest names.now start 0 buffer.old
+        → IfOk result (λ p. ArePulled committed rest names.now p.1 p.0 buffer.new
         × ((p.0 ≡ length buffer.old) ⊎ (p.0 ≡ length rest))) }
     ensures passes { (committed more rest : List ℕ) → S.is_honest source.old → S.bytes source.old ≡ committed ++ more
-        → length committed ≡ end → ArePulled committed rest gaps.now start 0 buffer.old
+        → length committed ≡ end → ArePulled committed rest names.now start 0 buffer.old
         → IfOk result (λ p. HasPassed committed start p.1) }
     ensures cause { (committed more rest : List ℕ) → S.is_honest source.old → S.bytes source.old ≡ committed ++ more
-        → length committed ≡ end → ArePulled committed rest gaps.now start 0 buffer.old → IsErr result
+        → length committed ≡ end → ArePulled committed rest names.now start 0 buffer.old → IsErr result
         → HasFailed (S.failures source.old) (S.failures source.new) × (0 < min (length rest) (length buffer.old)) }
     ensures within { IfOk result (λ p. p.0 ≤ length buffer.old) }
     ensures later { S.failures source.old ≤ S.failures source.new }
@@ -349,7 +349,7 @@ pub fn pull_pages<S: PageSource>(
     let mut given = 0;
     let mut left = start;
     'pages: while given < buffer.len() && left.place < end {
-        match pull_next(source, end, gaps, left, given, buffer) {
+        match pull_next(source, end, names, left, given, buffer) {
             Ok((count, after)) => {
                 given = count;
                 left = after;

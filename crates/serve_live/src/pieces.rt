@@ -2,9 +2,9 @@
 ghost use Rattle.std.specs.Prelude.{◌≡◌, ◌+◌, ◌^◌, ◌<◌, ◌≤◌, ℕ, List, ◌++◌, length, take, drop, min, IfOk, IsErr};
 ghost use Rattle.ogg_page.specs.Window.{KeepsSource};
 ghost use Rattle.serve_live.specs.Listening.{ArePagesLeft, HasFailed, part_at};
-ghost use Rattle.serve_live.specs.Pulling.{GivesBehind, HasPassed, gaps_kept};
+ghost use Rattle.serve_live.specs.Pulling.{GivesBehind, HasPassed, names_kept};
 
-use crate::gaps::StreamGap;
+use crate::names::StreamName;
 use crate::pages::{PageLeft, pull_pages};
 use ogg_page::{PageSource, SourceFault};
 
@@ -73,18 +73,18 @@ pub fn pull_behind<S: PageSource>(
     source: &mut S,
     end: u64,
     text: &[u8],
-    gaps: &[StreamGap],
+    names: &[StreamName],
     start: PageLeft,
     buffer: &mut [u8],
 ) -> Result<(usize, usize, PageLeft), SourceFault>
     ensures gives { (committed more pages : List ℕ) → S.is_honest source.old → S.bytes source.old ≡ committed ++ more
-        → length committed ≡ end → ArePagesLeft committed (gaps_kept gaps.now start) start.place start.skip pages
-        → IfOk result (λ r. GivesBehind committed gaps.now text.now pages (length buffer.old) buffer.new r.0 r.1 r.2) }
+        → length committed ≡ end → ArePagesLeft committed (names_kept names.now start) start.place start.skip pages
+        → IfOk result (λ r. GivesBehind committed names.now text.now pages (length buffer.old) buffer.new r.0 r.1 r.2) }
     ensures passes { (committed more pages : List ℕ) → S.is_honest source.old → S.bytes source.old ≡ committed ++ more
-        → length committed ≡ end → ArePagesLeft committed (gaps_kept gaps.now start) start.place start.skip pages
+        → length committed ≡ end → ArePagesLeft committed (names_kept names.now start) start.place start.skip pages
         → IfOk result (λ r. HasPassed committed start r.2) }
     ensures cause { (committed more pages : List ℕ) → S.is_honest source.old → S.bytes source.old ≡ committed ++ more
-        → length committed ≡ end → ArePagesLeft committed (gaps_kept gaps.now start) start.place start.skip pages
+        → length committed ≡ end → ArePagesLeft committed (names_kept names.now start) start.place start.skip pages
         → IsErr result → HasFailed (S.failures source.old) (S.failures source.new)
         × (0 < min (length (text.now ++ pages)) (length buffer.old)) }
     ensures within { IfOk result (λ r. (r.0 ≤ length text.now) × (r.0 + r.1 ≤ length buffer.old)) }
@@ -93,7 +93,7 @@ pub fn pull_behind<S: PageSource>(
 {
     let told = pull_text(text, buffer);
     let (_, room) = buffer.split_at_mut(told);
-    match pull_pages(source, end, gaps, start, room) {
+    match pull_pages(source, end, names, start, room) {
         Ok((heard, left)) => Ok((told, heard, left)),
         Err(fault) => Err(fault),
     }

@@ -1,6 +1,6 @@
 use Rattle.std.proofs.Common.{◌++◌, [], ◌∙◌, ap, sym}
 use Rattle.std.proofs.lemmas.Bool.{cond-false}
-use Rattle.serve_live.specs.Renumbering.{back_of}
+use Rattle.serve_live.specs.Renaming.{back_of}
 use Rattle.archive_cut.proofs.Continued.{back_here}
 use Rattle.archive_cut.proofs.continuing.add_first.Goals as goal
 

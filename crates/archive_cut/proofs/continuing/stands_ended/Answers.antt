@@ -11,4 +11,4 @@ returns-in-Ok-bytes_at-clause-ended g c yes' sure =
     ∙ (slice_eq-Decides Decides-eqb _ _ _ c.eq.ensures).0 yes'
     ∙ c.as_slice-in-Ok-bytes_at.ensures.value
     ∙ c.in-Ok.ensures.text
-    ∙ plain_ends c.wait-nobody.result.gaps c.args.streams.now
+    ∙ plain_ends c.wait-nobody.result.names c.args.streams.now

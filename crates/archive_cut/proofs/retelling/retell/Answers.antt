@@ -5,10 +5,10 @@ use Rattle.byteorder.specs.Endian.{little_bytes}
 use Rattle.ogg_page.specs.Head.{checksum_in, header_of}
 use Rattle.ogg_page.specs.Page.{page_bytes, page_size}
 use Rattle.ogg_page.specs.PageLaws.{length-page_bytes}
-use Rattle.serve_live.specs.Renumbering.{back_of}
-use Rattle.archive_cut.specs.Retold.{head_of, names_change, names_of, page_change}
+use Rattle.serve_live.specs.Renaming.{back_of}
+use Rattle.serve_live.specs.Renaming.{head_of, names_change, names_of, page_change}
 use Rattle.archive_cut.proofs.Continued.{all_taken, before_back, before_size, in_two}
-use Rattle.archive_cut.proofs.Retold.{old_names, retold_bytes}
+use Rattle.serve_live.specs.RenamingLaws.{old_names, retold_bytes}
 use Rattle.archive_cut.proofs.Walked.{stands_alone}
 use Rattle.archive_cut.proofs.retelling.retell.Goals as goal
 

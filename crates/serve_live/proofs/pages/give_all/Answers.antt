@@ -42,7 +42,7 @@ pages-preserved c =
 
 pub returns-in-None-clause-gives : goal.returns-in-None-clause-gives
 returns-in-None-clause-gives c committed more rest inside b =
-    subst (λ buffer. AreGiven committed more rest c.args.gaps.now c.args.start c.pages.left c.pages.given c.args.end buffer)
+    subst (λ buffer. AreGiven committed more rest c.args.names.now c.args.start c.pages.left c.pages.given c.args.end buffer)
     (sym (c.give_whole.ensures.none c.in-None.is)) (c.pages.invariant.gives committed more rest inside b)
 
 pub returns-in-None-clause-further : goal.returns-in-None-clause-further

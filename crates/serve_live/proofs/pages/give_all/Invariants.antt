@@ -11,8 +11,8 @@ invariant-pages l = record {
   place : l.left.place ≡ l.fn.start.place + (l.given - l.before);
   none : l.given ≡ l.before → l.left ≡ l.fn.start;
   gives : (committed more rest : List ℕ) → l.fn.start.place + (l.end - l.before) ≤ length committed
-      → AreGiven committed more rest l.gaps l.fn.start l.fn.start l.before l.end l.fn.buffer
-      → AreGiven committed more rest l.gaps l.fn.start l.left l.given l.end l.buffer;
+      → AreGiven committed more rest l.names l.fn.start l.fn.start l.before l.end l.fn.buffer
+      → AreGiven committed more rest l.names l.fn.start l.left l.given l.end l.buffer;
 }
 
 abbrev pub decreases-pages : goal.decreases-pages

@@ -5,10 +5,10 @@ use Rattle.ogg_page.specs.Page.{page_bytes}
 use Rattle.ogg_page.specs.PageLaws.{length-page_bytes}
 use Rattle.page_heads.specs.Fronts.{IsFrontOf, facts_of}
 use Rattle.page_heads.specs.Laws.{part_of_page}
-use Rattle.serve_live.specs.Gaps.{gap_in}
+use Rattle.serve_live.specs.Names.{name_in}
 use Rattle.serve_live.specs.Heads.{IsHeadOf}
 use Rattle.serve_live.specs.Listening.{part_at}
-use Rattle.serve_live.specs.Pulling.{gaps_kept}
+use Rattle.serve_live.specs.Pulling.{names_kept}
 use Rattle.serve_live.proofs.Ahead.{goes_on, same_part, take_twice}
 use Rattle.serve_live.proofs.NextPage.{is_after, next_of, part_in_front, stands}
 use Rattle.serve_live.proofs.pages.give_whole.Goals as goal
@@ -21,9 +21,9 @@ returns-clause-gives c committed more rest start inside b =
     let left = c.args.left in
     let given = c.args.given in
     let end = c.args.end in
-    let gaps = c.args.gaps.now in
+    let names = c.args.names.now in
     let buffer = c.args.buffer.now in
-    let kept = gaps_kept gaps left in
+    let kept = names_kept names left in
     let head = c.heard_head-head.result in
     let some : left.place < length committed = omega (arith, inside, c.requires.room) in
     let h = next_of committed kept left.place left.skip (drop given rest) b.pulled.left_is some in
@@ -50,7 +50,7 @@ returns-clause-gives c committed more rest start inside b =
     ∙ part_of_page bytes h.page left.place 0 (head_size h.page) s (omega (arith, length-page_bytes h.page)) in
     let front_is : IsFrontOf h.page record { bytes = c.copy_from_slice.new.self; facts = facts } =
     record { is_page = h.is_page; facts = facts_is; bytes = copied } in
-    let is : IsHeadOf (gap_in kept) h.page head = subst (λ l. IsHeadOf (gap_in l) h.page head) c.kept_gaps.ensures (c.heard_head-head.ensures.told h.page front_is) in
+    let is : IsHeadOf (name_in kept) h.page head = subst (λ l. IsHeadOf (name_in l) h.page head) c.kept_names.ensures (c.heard_head-head.ensures.told h.page front_is) in
     let same = c.heard_head-head.ensures.same in
     let bounds = c.facts_of.ensures.bounds facts c.in_ok-facts.was in
     let short : head.len ≤ head.size = omega (arith, same.0, same.1, bounds.2) in
@@ -62,6 +62,6 @@ returns-clause-gives c committed more rest start inside b =
     c.copy_on.ensures.copied
     ∙ ap (λ n. take given buffer ++ (take n c.split_at.result.0.now ++ drop (given + n) buffer)) all
     ∙ ap (λ l. take given buffer ++ (l ++ drop (given + head.len) buffer)) (ap (take head.len) c.split_at.ensures.front ∙ take_twice head.len head.bytes) in
-    goes_on committed more rest gaps start left c.left_after-after.result head given end buffer c.copy_on.new.buffer b h is c.requires.skip
+    goes_on committed more rest names start left c.left_after-after.result head given end buffer c.copy_on.new.buffer b h is c.requires.skip
     least short ends c.requires.room.1 inside put
     (is_after left c.left_after-after.result head.begins head.size head.size c.left_after-after.ensures.within c.left_after-after.ensures.behind)

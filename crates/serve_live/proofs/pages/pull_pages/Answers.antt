@@ -29,7 +29,7 @@ pages-preserved g c =
 pub returns-else-left-end-clause-pulled : goal.returns-else-left-end-clause-pulled
 returns-else-left-end-clause-pulled g c committed more rest sure is end p =
     let b = c.pages.invariant.pulled committed more rest sure is end p in
-    (b, inr (none_left committed rest c.args.gaps.now c.pages.left c.pages.given c.pages.buffer b (omega (arith, end, c.if-left-end.false))))
+    (b, inr (none_left committed rest c.args.names.now c.pages.left c.pages.given c.pages.buffer b (omega (arith, end, c.if-left-end.false))))
 
 pub returns-after-pages-clause-pulled : goal.returns-after-pages-clause-pulled
 returns-after-pages-clause-pulled g c committed more rest sure is end p =
@@ -40,7 +40,7 @@ returns-in-Err-clause-cause g c committed more rest sure is end p err =
     let inv = c.pages.invariant in
     let pulled = inv.pulled committed more rest sure is end p in
     let inside : c.pages.left.place < length committed = omega (arith, end, c.if-left-end.true) in
-    let some = some_more committed rest c.args.gaps.now c.pages.left c.pages.given c.pages.buffer pulled inside in (
+    let some = some_more committed rest c.args.names.now c.pages.left c.pages.given c.pages.buffer pulled inside in (
       later_failed _ _ _ inv.later
           (c.in-Err.ensures.cause committed more rest (inv.source.honest_same.0 sure) (inv.source.bytes_same sure ∙ is) end inside pulled err),
       grind (arith, some, c.pages-test.true, inv.whole),

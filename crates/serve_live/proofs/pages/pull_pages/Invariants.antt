@@ -12,10 +12,10 @@ invariant-pages g l =
       source : KeepsSource s.bytes s.is_honest s.size s.only_reads l.fn.source l.source;
       later : s.failures l.fn.source ≤ s.failures l.source;
       pulled : (committed more rest : List ℕ) → s.is_honest l.fn.source → s.bytes l.fn.source ≡ committed ++ more
-          → length committed ≡ l.end → ArePulled committed rest l.gaps l.fn.start 0 l.fn.buffer
-          → ArePulled committed rest l.gaps l.left l.given l.buffer;
+          → length committed ≡ l.end → ArePulled committed rest l.names l.fn.start 0 l.fn.buffer
+          → ArePulled committed rest l.names l.left l.given l.buffer;
       passes : (committed more rest : List ℕ) → s.is_honest l.fn.source → s.bytes l.fn.source ≡ committed ++ more
-          → length committed ≡ l.end → ArePulled committed rest l.gaps l.fn.start 0 l.fn.buffer
+          → length committed ≡ l.end → ArePulled committed rest l.names l.fn.start 0 l.fn.buffer
           → HasPassed committed l.fn.start l.left;
     }
 

@@ -17,7 +17,7 @@ returns-in-Ok-clause-gives g c committed more pages sure is end left =
     let s = c.split_at_mut-room.ensures in
     let same : length c.pull_text-told.new.buffer ≡ size = c.pull_text-told.auto.buffer in
     let room : length c.split_at_mut-room.result.1.now ≡ size - c.pull_text-told.result = omega (arith, s.back_len, same) in
-    gives_behind committed c.args.text.now pages c.args.gaps.now c.in-Ok.left size c.pull_text-told.result c.in-Ok.heard c.split_at_mut-room.result.0.now c.pull_pages.new.buffer _
+    gives_behind committed c.args.text.now pages c.args.names.now c.in-Ok.left size c.pull_text-told.result c.in-Ok.heard c.split_at_mut-room.result.0.now c.pull_pages.new.buffer _
     c.pull_text-told.ensures.count (s.front ∙ c.pull_text-told.ensures.given) refl b.0
     (elim b.1 [ inl full ↦ inl (full ∙ room) | inr all ↦ inr all ]) (omega (arith, c.in-Ok.ensures.within, room))
 

@@ -1,10 +1,22 @@
 -- The bytes of a page under another serial, with another number, and what that adds to the checksum (RFC 3533, section
 -- 6). Ours.
-use Rattle.std.specs.Prelude.{◌≡◌, ℕ, ◌-◌, List, [], ◌∷◌, ◌++◌, replicate, codes}
+use Rattle.std.specs.Prelude.{◌≡◌, ℕ, ◌-◌, List, [], ◌∷◌, ◌++◌, length, replicate, bit_xor, codes}
 use Rattle.byteorder.specs.Endian.{little_bytes}
 use Rattle.page_checksum.specs.Checksum.{checksum_of}
 use Rattle.ogg_page.specs.Page.{Page, page_size}
-use Rattle.serve_live.specs.Renumbering.{front_of, xor_bytes}
+
+-- the bytes of the page before its number, and those after its checksum
+abbrev pub front_of : Page → List ℕ
+front_of page = codes "OggS" ++ 0 ∷ page.flags ∷ [] ++ little_bytes 8 page.position ++ little_bytes 4 page.serial
+
+abbrev pub back_of : Page → List ℕ
+back_of page = length page.lacing ∷ (page.lacing ++ page.body)
+
+-- each byte added to the one at its place, bit by bit without carrying
+abbrev pub xor_bytes : List ℕ → List ℕ → List ℕ
+xor_bytes [] ys = []
+xor_bytes (x ∷ xs) [] = []
+xor_bytes (x ∷ xs) (y ∷ ys) = bit_xor x y ∷ xor_bytes xs ys
 
 -- ---- any change of the fields before the checksum
 -- the bytes of the page before its checksum
