@@ -2,10 +2,11 @@
 """A station over a folder: its files change while sources send, listeners hear and clients fetch, on 127.0.0.1.
 
 `changing.py hears PROGRAM WORK` has listeners join before and while three sources send, over files of few bytes: whoever
-was there first hears every file as it is, and who joins later hears each file after the one that it joined in.
+was there first hears each source as one link, whatever the files; and so does who joins later, from there on.
+`changing.py pairs PROGRAM WORK` has one listener hear a source of two streams over files of few bytes, as one link.
 `changing.py fetches PROGRAM WORK` has clients ask for a long file that ends before they read what they get.
 `changing.py lags PROGRAM WORK` has a listener that reads nothing while files of several megabytes come and go: it hears
-each of them then.
+all that was sent then, as one link.
 `changing.py shares PROGRAM WORK` has forty clients read a long file that has ended as fast as it comes: others are
 answered meanwhile.
 `changing.py limits PROGRAM WORK` has as many connections as may be, most of which read a file that has ended.
@@ -30,6 +31,7 @@ import time
 
 from archiving import found, stream
 from filing import files_of, wrong
+from finishing import FIRST
 from finishing import pages_of as pages_in
 from pages import page
 from stationing import BASIC, Listener, Station, Told, faults_heard, is_whole, read_all, request, send_until_killed, until
@@ -41,10 +43,44 @@ def made(work, name):
     return path + "/"
 
 
+def found_pages(data):
+    """Where the whole pages end."""
+    at = 0
+    while data[at : at + 4] == b"OggS" and len(data) >= at + 27:
+        count = data[at + 26]
+        size = 27 + count + sum(data[at + 27 : at + 27 + count])
+        if len(data) < at + size:
+            break
+        at += size
+    return at
+
+
 def pages_of(folder):
     """The pages of each file, in the order of the files."""
     files = [data for _, _, _, data, _ in files_of(folder)]
     return [data[: found(data)[1]] for data in files]
+
+
+def heard_on(folder):
+    """What is heard of the files, from the first page of the first one on. The link that is open at the end of a file goes
+    on in the next one, if its name says so: without the pages that end its streams there, without those that begin them
+    here, and under the serials and with the numbers that they have so far. Here each stream begins with one page."""
+    heard = []
+    for _, _, goes_on, data, _ in files_of(folder):
+        pages = [one[:6] for one in pages_in(data[: found_pages(data)])]
+        if not goes_on:
+            heard += pages
+            continue
+        ends = []
+        while not heard[-1][4]:
+            ends.insert(0, heard.pop())
+        names = {new[2]: (old[2], old[3] - 1) for new, old in zip(pages, ends)}
+        first = len(ends)
+        last = next((at for at in range(first, len(pages)) if pages[at][0] & FIRST), len(pages))
+        for flags, position, serial, number, *rest in pages[first:last]:
+            heard.append([flags, position, names[serial][0], names[serial][1] + number, *rest])
+        heard += pages[last:]
+    return b"".join(page(*one) for one in heard)
 
 
 def is_open(station):
@@ -81,26 +117,27 @@ def hears(program, work):
                     late[-1].start()
     told.check("the last link ends", until(lambda: not is_open(station)))
     files = pages_of(folder)
-    data = b"".join(files)
+    data = heard_on(folder)
     until(lambda: len(early.body()) >= len(data))
     until(lambda: all(one.body()[-40:] == data[-40:] for one in late))
     faults, _ = wrong(folder, whole, ended=True)
     told.check("the files", not faults, faults[:5])
     told.check("files change", len(files) > 10, len(files))
-    told.check("who was there first hears every file as it is", early.body() == data, len(early.body()), len(data))
+    told.check("who was there first hears each link on", early.body() == data, len(early.body()), len(data))
+    told.check("it hears three links", len(found(early.body())[0]) == 3)
     known = {each for one in files for link in found(one)[0] for each in link["packets"]}
     over = 0
     for number, one in enumerate(late):
         heard = one.body()
         for fault in faults_heard(heard, known):
             told.check("listener %d" % number, False, fault)
-        # What is heard of the file in which it joined is some of it; each one after that is heard as it is.
-        after = [at for at in range(len(files)) if heard.endswith(b"".join(files[at:]))]
-        told.check("listener %d: how much is heard as it is" % number, bool(after), len(heard))
-        if after:
-            front = heard[: len(heard) - len(b"".join(files[after[0] :]))]
-            told.check("listener %d: one file is joined" % number, len(front) < 2 * 2500, len(front), after[0])
-            over += len(files) - after[0] > 2
+        # What is heard of the link in which it joined goes on to its end; each one after that is heard whole.
+        links = [link["packets"] for link in found(heard)[0]]
+        sources = [link["packets"] for link in found(data)[0]]
+        told.check("listener %d: the links after its own" % number, links[1:] == sources[len(sources) - len(links) + 1 :])
+        joined = sources[len(sources) - len(links)]
+        told.check("listener %d: the end of its own" % number, joined[len(joined) + 1 - len(links[0]) :] == links[0][1:])
+        over += len(links[0]) * 2 > len(joined) or len(links) > 1
     told.check("many hear changes", over > len(late) / 2, over, len(late))
     for one in [early, *late]:
         told.check("a listener goes on", one.is_alive())
@@ -152,6 +189,45 @@ def fetches(program, work):
     return told.end()
 
 
+def pair(count):
+    """A link of two streams, whose pages come in turn."""
+    for serial in (5, 6):
+        yield page(2, 0, serial, 0, [8], struct.pack("<II", serial, 0))
+    for number in range(1, count):
+        for serial in (5, 6):
+            yield page(0, number * serial, serial, number, [8], struct.pack("<II", serial, number))
+
+
+def pairs(program, work):
+    told = Told()
+    folder = made(work, "pairs")
+    station = Station(program, folder, "--most-bytes", "1500")
+    listener = Listener(station)
+    listener.start()
+    time.sleep(0.3)
+    with station.connect() as one:
+        one.sendall(request(b"PUT", BASIC))
+        for each in pair(200):
+            one.sendall(each)
+            time.sleep(0.003)
+    told.check("the link ends", until(lambda: not is_open(station)))
+    data = heard_on(folder)
+    until(lambda: len(listener.body()) >= len(data))
+    told.check("files change", len(files_of(folder)) > 5, len(files_of(folder)))
+    told.check("one link is heard", listener.body() == data, len(listener.body()), len(data))
+    pages = pages_in(data)
+    for at in (0, 1):
+        serial = pages[at][2]
+        own = [one for one in pages if one[2] == serial]
+        told.check("stream %d: its numbers" % at, [one[3] for one in own] == list(range(len(own))))
+        held = [bytes(one[5]) for one in own if one[4]]
+        told.check("stream %d: its packets" % at, held == [struct.pack("<II", 5 + at, it) for it in range(200)], len(held))
+        told.check("stream %d: its end" % at, [bool(one[0] & 4) for one in own] == [False] * (len(own) - 1) + [True])
+    err = station.stop()
+    told.check("standard error", b"fault" not in err and b"lost" not in err, err[-300:])
+    return told.end()
+
+
 def long_stream(seed, count):
     """A stream of so many pages of 65 kB, which take less time to be made than short ones."""
     yield page(2, 0, 77, 0, [8], struct.pack("<II", seed, 0))
@@ -184,10 +260,9 @@ def lags(program, work):
     station = Station(program, folder, "--most-bytes", "7000000")
     one = slow(station, LIVE)
     put(station, told, long_stream(61, 400))
-    files = pages_of(folder)
-    told.check("files change", len(files) > 3, len(files))
-    got = b""
-    wanted = sum(len(data) for data in files)
+    told.check("files change", len(files_of(folder)) > 3, len(files_of(folder)))
+    got, data = b"", heard_on(folder)
+    wanted = len(data)
     one.settimeout(20)
     try:
         while len(got.partition(b"\r\n\r\n")[2]) < wanted and (piece := one.recv(1 << 20)):
@@ -195,7 +270,7 @@ def lags(program, work):
     except TimeoutError:
         pass
     got = got.partition(b"\r\n\r\n")[2]
-    told.check("each file is heard", got == b"".join(files), len(got), wanted)
+    told.check("all is heard, as one link", got == data, len(got), wanted)
     err = station.stop()
     told.check("standard error", b"fault" not in err and b"lost" not in err, err[-300:])
 
@@ -334,9 +409,9 @@ def fills(program, library, work):
         told.check("%s: the oldest goes" % name, oldest.encode() in err and not os.path.exists(folder + oldest), err)
         # The last page may not have come whole.
         got = listener.body()
-        heard = [bytes(it[6]) for it in pages_in(got[: found(got)[1]])]
+        heard = [bytes(it[5]) for it in pages_in(got[: found(got)[1]])]
         told.check("%s: much is heard" % name, len(heard) > 100, len(heard))
-        rest = iter([bytes(it[6]) for _, _, _, data, _ in files_of(folder) for it in pages_in(data[: found(data)[1]])])
+        rest = iter([bytes(it[5]) for _, _, _, data, _ in files_of(folder) for it in pages_in(data[: found(data)[1]])])
         told.check("%s: nothing is heard twice" % name, all(it in rest for it in heard), len(heard))
     return told.end()
 
@@ -391,7 +466,7 @@ def main():
         return kills(program, work, int(more[0]))
     if more:
         return {"fails": fails, "fills": fills}[what](program, more[0], work)
-    return {"hears": hears, "fetches": fetches, "lags": lags, "shares": shares, "limits": limits}[what](program, work)
+    return {"hears": hears, "pairs": pairs, "fetches": fetches, "lags": lags, "shares": shares, "limits": limits}[what](program, work)
 
 
 if __name__ == "__main__":

@@ -24,7 +24,7 @@ check "standard input: all are ended" run verify "$work/input"
 
 mkdir "$work/changing"
 cc -O2 -shared -fPIC -D_GNU_SOURCE -o "$work/failing.so" "$here/failing.c" || exit 1
-for what in hears fetches lags shares limits; do
+for what in hears pairs fetches lags shares limits; do
     check "changing.py $what" timeout 170 python3 "$here/changing.py" "$what" "$program" "$work/changing"
 done
 cc -O2 -shared -fPIC -D_GNU_SOURCE -o "$work/filling.so" "$here/filling.c" || exit 1

@@ -5,6 +5,8 @@ use Rattle.feed_records.specs.declared.item.Record.TheVariants.{Flush}
 use Rattle.feed_replies.specs.declared.reply.Reply.{Reply}
 use Rattle.import_record.specs.declared.answering.Answered.{Answered}
 use Rattle.serve_hub.specs.Running.{Answers, IsIn, Progress}
+use Rattle.link_chain.specs.declared.stream_state.StreamState.{StreamState}
+use Rattle.serve_live.specs.Following.{GoesOn, names_on}
 use Rattle.serve_live.specs.Joined.{IsNew}
 use Rattle.serve_live.specs.Listening.{ListenerState}
 use Rattle.serve_clients.specs.Client.{ClientState, LacksHeadRoom, cut_for_memory}
@@ -44,6 +46,14 @@ pub record HearsAnew (old new : ClientState) : Type 0 where
   pub listener : ListenerState
   pub hears : new.listener ≡ Some listener
   pub first : IsNew 0 0 0 [] listener
+  pub rest : new ≡ record old { listener = Some listener }
+
+-- It hears on in a file in which the link goes on that it has heard so far: these streams of the file before go on with
+-- these
+pub record HearsOn (begun : ℕ) (streams next : List StreamState) (heard : ListenerState) (old new : ClientState) : Type 0 where
+  pub listener : ListenerState
+  pub hears : new.listener ≡ Some listener
+  pub goes_on : GoesOn begun (names_on heard.names streams next) listener
   pub rest : new ≡ record old { listener = Some listener }
 
 -- In a file that was changed to, the link that the source has open begins again, under serials that are none of these, and

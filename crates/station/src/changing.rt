@@ -1,6 +1,6 @@
 //! A station goes over to another file: who reads the one before leaves for a station that serves it to its end.
 ghost use Rattle.std.specs.List.{filter};
-ghost use Rattle.std.specs.Prelude.{◌≡◌, ◌≢◌, ◌↔◌, ◌<◌, ◌⊎◌, ◌||◌, [], ℕ, None, Ok, Some, false, true, IfErr, IfOk, IfSome, IsSome, OnErr, length};
+ghost use Rattle.std.specs.Prelude.{◌≡◌, ◌≢◌, ◌↔◌, ◌<◌, ◌⊎◌, ◌||◌, [], ℕ, None, Ok, Some, false, true, IfErr, IfOk, IfSome, IsSome, OnErr, OnOk, length};
 ghost use Rattle.slab.specs.Slab.{get};
 ghost use Rattle.gate_file.specs.Commit.{CommitsTo};
 ghost use Rattle.gate_file.specs.Gate.{EachImage};
@@ -15,9 +15,11 @@ ghost use Rattle.serve_clients.specs.declared.clients.Clients.{Clients as Client
 ghost use Rattle.serve_clients.specs.Line.{new_line};
 ghost use Rattle.import_record.specs.Running.{nothing};
 ghost use Rattle.import_record.specs.declared.answering.Answered.{Answered as AnsweredOf};
-ghost use Rattle.serve_hub.specs.Running.{IsIn, Progress};
+ghost use Rattle.serve_hub.specs.Running.{IsIn, Progress, RepliesIn};
+ghost use Rattle.feed_records.specs.declared.item.Record.{Record as RecordOf};
+ghost use Rattle.serve_live.specs.Listening.{ListenerState};
 ghost use Rattle.station.specs.Spare.{is_another, is_spare};
-ghost use Rattle.station.specs.Changing.{BeginsAgain, HearsAnew, HoldsBack, ReadsFile, anew, arrived, come};
+ghost use Rattle.station.specs.Changing.{BeginsAgain, HearsAnew, HearsOn, HoldsBack, ReadsFile, anew, arrived, come};
 ghost use Rattle.station_hub.specs.Giving.{has_got_all};
 ghost use Rattle.serve_live.specs.Boundaries.{place_to_join};
 ghost use Rattle.station_hub.specs.Live.{RecordsLive};
@@ -27,12 +29,13 @@ ghost use Rattle.station_sources.specs.declared.air.OnAir.{OnAir as OnAirOf};
 use crate::Memory;
 use crate::station::{Options, Station, leave};
 use disk_model::Disk;
+use feed_replies::Reply;
 use feed_runner::Runner;
 use file_recorder::Recorder;
 use import_changes::Skeletons;
 use import_record::{Answered, RecordFault, run_all};
 use serve_clients::{Client, Clients, Line, Stage};
-use serve_live::{JoinPlace, Listener};
+use serve_live::{JoinPlace, Listener, StreamState};
 use slab::Slab;
 use station_hub::{LiveHub, Waking, notice};
 use station_sources::OnAir;
@@ -105,6 +108,28 @@ fn hear_by(client: &mut Client, listener: Listener)
     ensures { client.new ≡ record client.old { listener = Some listener } }
 {
     client.listener = Some(listener);
+}
+
+/// A connection goes on with what it hears in another file, as [`Listener::go_on`] has it. One that hears nothing stays as
+/// it is.
+fn go_on(
+    alloc: Global,
+    client: &mut Client,
+    begun: u64,
+    streams: &[StreamState],
+    next: &[StreamState],
+) -> Result<(), Memory>
+    ensures on { OnOk result ((heard : ListenerState) → client.old.listener ≡ Some heard
+        → HearsOn begun streams.now next.now heard client.old client.new) }
+    ensures none { client.old.listener ≡ None → (result ≡ Ok tt) × (client.new ≡ client.old) }
+    ensures same { OnErr result (client.new ≡ client.old) }
+{
+    let Some(heard) = &client.listener else {
+        return Ok(());
+    };
+    let listener = heard.go_on(alloc, begun, streams, next)?;
+    hear_by(client, listener);
+    Ok(())
 }
 
 impl<D: Disk + Drop> Station<D> {
@@ -192,6 +217,15 @@ impl<D: Disk + Drop> Station<D> {
             Some(air) => air.has_come(),
             None => false,
         }
+    }
+
+    /// Keeps what waits. It answers as the file does.
+    pub fn keep(&mut self) -> Reply
+        ensures replied { RepliesIn self.old.live.hub.file RecordOf.Flush result self.new.live.hub.file }
+        ensures rest { self.new ≡ record self.old { live = self.new.live } }
+        ensures records { RecordsLive D.Disk self.old.live self.new.live }
+    {
+        self.live.run_flush()
     }
 
     /// After the file was changed: the link that the source has open begins again in it, under serials that are none of
@@ -307,6 +341,30 @@ impl<D: Disk + Drop> Station<D> {
         let key = insert(&mut self.clients.slots, client)?;
         self.wake(key, true, true);
         Ok(key)
+    }
+
+    /// This connection goes on with what it hears in another file, in which the link goes on that it has heard so far: let it
+    /// leave for that next. `streams` are those that are open at the end of this file, and `next` those that go on with
+    /// them, in order, as [`Listener::go_on`] has it. After `Memory` it is as it was.
+    pub fn hear_on(
+        &mut self,
+        key: usize,
+        begun: u64,
+        streams: &[StreamState],
+        next: &[StreamState],
+    ) -> Result<(), Memory>
+        ensures on { OnOk result ((client : ClientState) (heard : ListenerState) → get self.old.clients.slots key ≡ Some client
+            → client.listener ≡ Some heard → (after : ClientState) × (get self.new.clients.slots key ≡ Some after)
+            × HearsOn begun streams.now next.now heard client after) }
+        ensures none { get self.old.clients.slots key ≡ None → (result ≡ Ok tt) × (self.new ≡ self.old) }
+        ensures same { OnErr result ((other : ℕ) → get self.new.clients.slots other ≡ get self.old.clients.slots other) }
+        ensures others { OthersStay key self.old.clients self.new.clients }
+        ensures rest { self.new ≡ record self.old { clients = self.new.clients } }
+    {
+        match self.clients.slots.get_mut(key) {
+            Some(client) => go_on(self.alloc, client, begun, streams, next),
+            None => Ok(()),
+        }
     }
 
     /// This connection hears the file from its first page on, as it is.

@@ -2,15 +2,15 @@
 ghost use Rattle.std.specs.Prelude.{◌≡◌, IfOk, false};
 ghost use Rattle.archive_record.specs.Files.{AllKept};
 
-use crate::seats::{Next, Stations};
+use crate::seats::{Meeting, Next, Stations};
 use archive_folder::{FileName, Folder};
 use archive_record::{ArchiveFault, Beside, Damage, Rotation, Rules};
 use archive_times::Join;
 use disk_model::{Disk, Memory};
-use file_recorder::Recorder;
+use file_recorder::{Recorder, end_streams};
 use gate_file::OpenFault;
 use import_record::{Answered, RecordFault};
-use link_chain::{MOST_LINKS, is_open};
+use link_chain::{MOST_LINKS, StreamState, is_open};
 use serve_hub::Hub;
 use station::Done;
 use station_hub::LiveHub;
@@ -80,6 +80,15 @@ fn live_over<D: Disk + Drop>(alloc: Global, hub: Hub<D>) -> Result<LiveHub<D>, A
 /// The serials that a file has.
 fn serials_of<D: Disk>(alloc: Global, hub: &Hub<D>) -> Result<Vec<u32>, Memory> {
     hub.serials().to_vec(alloc)
+}
+
+/// The streams that haven't ended.
+fn open_streams(alloc: Global, streams: &[StreamState]) -> Result<Vec<StreamState>, Memory> {
+    streams
+        .iter()
+        .copied()
+        .filter(|stream| !stream.ended)
+        .collect(alloc)
 }
 
 /// Whether a hub's file takes no further link.
@@ -197,8 +206,8 @@ impl<D: Disk + Drop, F: Folder<File = D> + Drop> Filed<F> {
                 .is_over(self.name, hub.length(), is_full(hub), day)
     }
 
-    /// Ends what is open, and begins the next file; the one before is read from this disk. If the disk has failed meanwhile
-    /// nothing is changed.
+    /// Ends what is open, and begins the next file; the one before is read from this disk, to where the open link goes on. If
+    /// the disk has failed meanwhile nothing is changed.
     fn change<B: Beside>(
         &mut self,
         stations: &mut Stations<D>,
@@ -206,61 +215,110 @@ impl<D: Disk + Drop, F: Folder<File = D> + Drop> Filed<F> {
         clocks: Clocks,
         beside: &mut B,
     ) -> Result<Option<Answered>, ArchiveFault> {
-        let goes_on = is_open(stations.newest().hub().streams());
-        let Ok(serials) = serials_of(self.alloc, stations.newest().hub()) else {
-            return Err(ArchiveFault::Memory);
-        };
-        let ended = stations.newest_mut().end_open();
-        if stations.newest().hub().is_failed() {
+        stations.newest_mut().keep();
+        let hub = stations.newest().hub();
+        if hub.is_failed() {
             return Ok(None);
         }
-        self.tell_time(stations, clocks.day, beside);
-        if let Err(refusal) = ended {
-            beside.refused(0, refusal);
-        }
-        let end = stations.newest().hub().end();
-        let Ok(reading) = Recorder::to_read(self.alloc, disk, end) else {
-            // The link has ended, so it begins again in this file.
-            self.put_off = clocks.steady.saturating_add(PUT_OFF);
-            let answered = begin_link(stations, serials.as_slice(), false)?;
-            return Ok(Some(answered));
+        let Ok(serials) = serials_of(self.alloc, hub) else {
+            return Err(ArchiveFault::Memory);
         };
-        let is_cut = match stations.newest_mut().read_by(reading) {
-            Ok(recorder) => self.rotation.end(self.name, recorder, beside),
+        let Ok(open) = open_streams(self.alloc, hub.streams()) else {
+            return Err(ArchiveFault::Memory);
+        };
+        let (end, join) = (hub.end(), join_of(stations));
+        let Ok(reading) = Recorder::to_read(self.alloc, disk, end) else {
+            self.put_off = clocks.steady.saturating_add(PUT_OFF);
+            return Ok(None);
+        };
+        let recorder = match stations.newest_mut().read_by(reading) {
+            Ok(recorder) => recorder,
             Err(disk) => {
+                // A hub without a file has failed.
                 self.rotation.give_back(self.name, disk);
-                false
+                return Ok(None);
             }
         };
-        let goes_on = goes_on && ended.is_ok() && is_cut;
-        let answered = self.begin(
-            stations,
-            goes_on,
-            serials.as_slice(),
-            // What couldn't be kept at the end of the file before is lost.
-            ended.is_err(),
-            clocks.day,
-            beside,
-        )?;
-        Ok(Some(answered))
+        match self.end(recorder, join, clocks.day, beside) {
+            Ok(is_ended) => {
+                let answered = self.begin(
+                    stations,
+                    open,
+                    serials.as_slice(),
+                    // What couldn't be kept at the end of the file before is lost.
+                    is_ended,
+                    clocks.day,
+                    beside,
+                )?;
+                Ok(Some(answered))
+            }
+            Err(recorder) => {
+                // `recover` goes on with the disk that has failed.
+                let _ = stations.newest_mut().read_by(recorder);
+                Ok(None)
+            }
+        }
     }
 
-    /// Begins the next file, and in it the link that is open in the source, under serials that are none of these. Whether
-    /// something of the source is lost is noted.
+    /// Ends the file for good: what is open is ended, and the file is cut to its pages. Returns whether all of its streams
+    /// have ended. If the disk fails the recorder is handed back.
+    fn end<B: Beside>(
+        &mut self,
+        recorder: Recorder<D>,
+        join: Option<Join>,
+        day: u64,
+        beside: &mut B,
+    ) -> Result<bool, Recorder<D>> {
+        let mut recorder = recorder;
+        // The ends share one commit.
+        recorder.hold_all();
+        let ended = end_streams(&mut recorder);
+        let open_join = if is_open(recorder.streams()) {
+            join
+        } else {
+            None
+        };
+        self.rotation
+            .end_group(self.name, recorder, open_join, day, beside)?;
+        match ended {
+            Ok(()) => Ok(true),
+            Err(refusal) => {
+                beside.refused(0, refusal);
+                Ok(false)
+            }
+        }
+    }
+
+    /// Begins the next file, and in it the link that is open in the source, under serials that are none of these. These
+    /// streams were open at the end of the file before; whether they have ended there is said: if not, it is noted that
+    /// something of the source is lost. Who hears the link hears on, if as many go on.
     fn begin<B: Beside>(
         &mut self,
         stations: &mut Stations<D>,
-        goes_on: bool,
+        open: Vec<StreamState>,
         serials: &[u32],
-        is_lost: bool,
+        is_ended: bool,
         day: u64,
         beside: &mut B,
     ) -> Result<Answered, ArchiveFault> {
+        let goes_on = is_ended && !open.is_empty();
         let (name, recorder) = self.rotation.begin(goes_on, day, beside)?;
         self.name = name;
         let hub = hub_over(self.alloc, recorder, self.most)?;
         stations.change(live_over(self.alloc, hub)?, Next::Another);
-        let answered = begin_link(stations, serials, is_lost)?;
+        let answered = begin_link(stations, serials, !is_ended)?;
+        let hub = stations.newest().hub();
+        let Ok(begun) = open_streams(self.alloc, hub.streams()) else {
+            return Err(ArchiveFault::Memory);
+        };
+        if goes_on && hub.held() == 0 && !hub.is_failed() && begun.len() == open.len() {
+            let begun_end = hub.end();
+            stations.goes_on(Meeting {
+                open,
+                begun,
+                begun_end,
+            });
+        }
         self.rotation.throw_away(day, beside);
         Ok(answered)
     }
@@ -308,9 +366,9 @@ impl<D: Disk + Drop, F: Folder<File = D> + Drop> Filed<F> {
         self.left_at = Some(0);
         let answered = self.begin(
             stations,
-            false,
+            Vec::new(self.alloc),
             serials.as_slice(),
-            true,
+            false,
             clocks.day,
             beside,
         )?;

@@ -1,9 +1,14 @@
 //! The station whose file is recorded, and those that serve files that have ended to whoever reads them still.
-ghost use Rattle.std.specs.Prelude.{◌≡◌, ◌<◌, ◌^◌, length, IfSome, ◌↔◌, ◌-◌, ◌≤◌, true};
+ghost use Rattle.std.specs.Prelude.{◌≡◌, ◌<◌, ◌^◌, None, Ok, Some, length, IfSome, OnOk, ◌↔◌, ◌-◌, ◌≤◌, true};
+ghost use Rattle.slab.specs.Slab.{get};
+ghost use Rattle.serve_clients.specs.Client.{ClientState};
+ghost use Rattle.serve_live.specs.Listening.{ListenerState};
+ghost use Rattle.station.specs.Changing.{HearsOn};
 ghost use Rattle.station_files.specs.Seat.{token_of};
 ghost use Rattle.station_files.specs.declared.seats.Seat.{Seat as SeatOf};
 
 use disk_model::Disk;
+use link_chain::StreamState;
 use serve_clients::Kinds;
 use station::{Client, Memory, Station, Unaccepted};
 use station_hub::LiveHub;
@@ -79,8 +84,21 @@ pub struct Move {
 pub enum Next {
     /// Another file: who has heard all of the one before hears it from its first page on.
     Another,
+    /// Another file, in which the open link goes on: who has heard all of the one before hears on in it.
+    GoesOn,
     /// The same file, opened again: who has heard all that it had goes on where that ends.
     Same,
+}
+
+/// Where the link that is open at the end of a file goes on in the next one.
+#[derive(Drop)]
+pub struct Meeting {
+    /// The streams that are open at the end of the file.
+    pub open: Vec<StreamState>,
+    /// Those that go on with them in the next one, in order, as the pages leave them with which the link begins there.
+    pub begun: Vec<StreamState>,
+    /// Where these pages end.
+    pub begun_end: u64,
 }
 
 /// A station over a file that has ended, or that was left.
@@ -89,6 +107,30 @@ struct Past<D: Disk> {
     number: u64,
     station: Station<D>,
     next: Next,
+    // where it goes on, if it does
+    meeting: Option<Meeting>,
+}
+
+impl<D: Disk + Drop> Past<D> {
+    /// A connection that hears this file hears on in the next one, if the open link goes on there.
+    fn hear_on(&mut self, key: usize) -> Result<(), Memory>
+        ensures on { OnOk result (IfSome self.old.meeting (λ meeting. (client : ClientState) (heard : ListenerState)
+            → get self.old.station.clients.slots key ≡ Some client → client.listener ≡ Some heard → (after : ClientState)
+            × (get self.new.station.clients.slots key ≡ Some after)
+            × HearsOn meeting.begun_end meeting.open.items meeting.begun.items heard client after)) }
+        ensures none { self.old.meeting ≡ None → (result ≡ Ok tt) × (self.new ≡ self.old) }
+        ensures rest { self.new ≡ record self.old { station = self.new.station } }
+    {
+        match &self.meeting {
+            Some(meeting) => self.station.hear_on(
+                key,
+                meeting.begun_end,
+                meeting.open.as_slice(),
+                meeting.begun.as_slice(),
+            ),
+            None => Ok(()),
+        }
+    }
 }
 
 /// The station whose file is recorded, and stations over files that have ended, in the order of their files.
@@ -346,11 +388,23 @@ impl<D: Disk + Drop> Stations<D> {
                     number,
                     station,
                     next,
+                    meeting: None,
                 };
                 self.send_readers(&mut past);
                 let _ = self.past.push(past);
             }
             Err(_) => self.drop_readers(),
+        }
+    }
+
+    /// In the file that is recorded now the link goes on that was open at the end of the one before: who hears that hears
+    /// on. Call it after `change`, before anybody has a turn.
+    pub fn goes_on(&mut self, meeting: Meeting) {
+        if let Some(past) = self.past.last_mut() {
+            if past.number == self.last {
+                past.next = Next::GoesOn;
+                past.meeting = Some(meeting);
+            }
         }
     }
 
@@ -387,21 +441,34 @@ impl<D: Disk + Drop> Stations<D> {
         let Some((client, next)) = self.leave(at, seat.key) else {
             return;
         };
-        let to = match self.past.get_mut(at.saturating_add(1)) {
-            Some(past) => enter_next(&mut past.station, past.number, client, next),
-            None => enter_next(&mut self.newest, 0, client, next),
+        let to = match client {
+            Some(client) => self.enter_after(at, client, next),
+            None => None,
         };
         let _ = self.moves.push(Move { from: seat, to });
     }
 
-    /// A connection leaves a station over a file that was left, if it has heard all of that. It returns what follows.
-    fn leave(&mut self, at: usize, key: usize) -> Option<(Client, Next)> {
+    /// A connection has heard all of a file that was left, and enters the station over the one that follows.
+    fn enter_after(&mut self, at: usize, client: Client, next: Next) -> Option<Seat> {
+        match self.past.get_mut(at.saturating_add(1)) {
+            Some(past) => enter_next(&mut past.station, past.number, client, next),
+            None => enter_next(&mut self.newest, 0, client, next),
+        }
+    }
+
+    /// A connection leaves a station over a file that was left, if it has heard all of that. It returns what follows. The
+    /// connection is gone if there was no memory for it to hear on.
+    fn leave(&mut self, at: usize, key: usize) -> Option<(Option<Client>, Next)> {
         let past = self.past.get_mut(at)?;
         if !past.station.has_heard_all(key) {
             return None;
         }
+        let heard = past.hear_on(key);
         let client = past.station.leave(key)?;
-        Some((client, past.next))
+        match heard {
+            Ok(()) => Some((Some(client), past.next)),
+            Err(_) => Some((None, past.next)),
+        }
     }
 
     /// A file that has ended is closed once nobody reads it or an older one.
