@@ -7,9 +7,10 @@ parts, by whether the client has it, by HEAD, and in each way that is refused.
 file, as long as its length says, and what was fetched stays as it was.
 `fetching.py goes PROGRAM WORK` fetches a file slowly that is thrown away meanwhile.
 `fetching.py from PROGRAM WORK` asks stations over archives that are made by hand for what was recorded from a time on, and
-between two: the one holds the packets that the tests' own program says, the other is what `cut` writes.
-`fetching.py follows PROGRAM WORK` hears from a time on while a source sends and files change: what is heard is a part of
-the first file, and then all of each file that follows.
+between two: the one holds the packets that the tests' own program says, the other is what `cut` writes. A link that goes
+on in the next file is one link, if as many streams go on as are ended.
+`fetching.py follows PROGRAM WORK` hears from a time on while a source sends and files change: what is heard is a link from
+some page on, and then all that follows, and no change of files is heard.
 `fetching.py origins PROGRAM WORK` asks two stations over the same files for everything, of which one allows the pages of an
 origin to read what it answers: its answers have one line more.
 `fetching.py pesters PROGRAM WORK` asks for files and times in whole requests and in pieces, with more bytes behind, in halves
@@ -17,6 +18,7 @@ that nothing follows, and goes away in the middle of answers: each answer is tha
 
 Each prints a line for what is wrong, and last how much was tried; the status is 1 if something was wrong.
 """
+import contextlib
 import copy
 import os
 import random
@@ -30,9 +32,11 @@ import time
 
 from archiving import stream
 from cutting import a_time, held, recorded, times_of, told as spelled
-from changing import made, open_files, pages_of
+from changing import heard_on, made, open_files, pages_of
 from filing import files_of
+from finishing import FIRST, LAST
 from finishing import pages_of as pages_in
+from pages import page as page_of
 from stationing import BASIC, Station, Told, read_all, request, until
 
 FOREVER = b"public, max-age=31536000, immutable"
@@ -329,9 +333,78 @@ def between(told, station, program, folder, rng, files):
     return 1
 
 
+# ---- what is heard over files
+def ended_last(file):
+    """The serials of the streams that the last pages of a file end, which hold no packets."""
+    serials = []
+    for flags, _, serial, _, lacing, *_ in reversed(pages_in(file.data)):
+        if flags != LAST or lacing:
+            break
+        serials.insert(0, serial)
+    return serials
+
+
+def begun_first(file):
+    """The serials of the streams that are open where a file's first link has begun: after the pages of its Begin, and those
+    that directly end some, without packets. There are none if no line tells of that Begin."""
+    joins = [join for _, _, join in file.lines if join]
+    if not joins or joins[0][0] != 0:
+        return []
+    is_open, at = {}, 0
+    for flags, _, serial, _, lacing, _, whole in pages_in(file.data):
+        if at >= joins[0][1] and (lacing or not flags & LAST):
+            break
+        is_open[serial] = not flags & LAST
+        at += len(whole)
+    return [serial for serial in is_open if is_open[serial]]
+
+
+def meets(files, at):
+    """The serials of the streams of this file with which those of the one before go on, by the serials there. There are
+    none if it doesn't go on with that, or with another count of streams."""
+    if not 0 < at < len(files):
+        return {}
+    before, after = files[at - 1], files[at]
+    if not after.goes_on or after.number != before.number + 1:
+        return {}
+    ended, begun = ended_last(before), begun_first(after)
+    return dict(zip(begun, ended)) if len(ended) == len(begun) else {}
+
+
+def begins_late(file, when, since, count):
+    """Whether nothing of the file but the last pages that end so many streams was recorded after the time."""
+    first = next(at for at, moment in enumerate(when) if moment > since)
+    start = file.commands[first - 1][2] if first else 0
+    return count > 0 and start >= len(file.data) - 27 * count
+
+
+def heard_links(files, when, since):
+    """The links that are heard from a time on: of each stream its serial and its packets."""
+    links, names, hears = [], {}, False
+    for at, file in enumerate(files):
+        found = held(file, when[at], since, None)
+        if not hears and (not found or begins_late(file, when[at], since, len(meets(files, at + 1)))):
+            continue
+        on = meets(files, at) if hears else {}
+        hears = True
+        if on:
+            # Under which serials the streams are heard.
+            names = {new: names.get(old, old) for new, old in on.items()}
+            begun = {serial: len(packets) for serial, packets in file.commands[0][1]}
+            for serial, packets in found[0]:
+                if serial in names:
+                    [own] = [stream for stream in links[-1] if stream[0] == names[serial]]
+                    own[1] += packets[begun[serial] :]
+            found = found[1:]
+        if found or not on:
+            names = {}
+        links += found
+    return links
+
+
 def from_times(program, work):
     told, rng = Told(), random.Random(91)
-    cut = 0
+    cut = over = 0
     for at in range(8):
         folder = made(work, "from%d" % at)
         files = recorded(rng, folder)
@@ -344,7 +417,9 @@ def from_times(program, work):
         when = [times_of(file, later) for file, later in zip(found, laters)]
         for _ in range(12):
             since = a_time(rng, files)
-            want = [link for file, moments in zip(found, when) for link in held(file, moments, since, None)]
+            want = heard_links(found, when, since)
+            apart = sum(len(held(file, moments, since, None)) for file, moments in zip(found, when))
+            over += len(want) < apart
             target = b"/from/" + spelled(since).encode()
             answer = hear(station, target, holds(want))
             told.check("%d: %s" % (at, target), answer.status == 200 and holds(want)(answer.body), answer)
@@ -360,7 +435,33 @@ def from_times(program, work):
         err = station.stop()
         told.check("standard error", b"fault" not in err, err[-300:])
     told.check("some cuts have something in them", cut > 20, cut)
+    told.check("links are heard on in the next file", over > 40, over)
     return told.end()
+
+
+def links_of_pages(pages):
+    """The pages of each link."""
+    links, begins = [], False
+    for one in pages:
+        if one[0] & FIRST and not begins:
+            links.append([])
+        begins = bool(one[0] & FIRST)
+        links[-1].append(one)
+    return links
+
+
+def bytes_of(links):
+    return b"".join(one[6] for link in links for one in link)
+
+
+def bodies_of(pages):
+    """What the pages hold that have packets, after the first one of each link."""
+    return [one[5] for one in pages if one[4] and not one[0] & FIRST]
+
+
+def count_of(pages):
+    """How many pages these are."""
+    return len(bodies_of(pages))
 
 
 def follows(program, work):
@@ -402,32 +503,28 @@ def follows(program, work):
     ends.set()
     for one in listeners:
         one.join(20)
-    files = [(number, data) for number, _, _, data, _ in files_of(folder)]
-    files[-1] = (files[-1][0], pages_of(folder)[-1])
+    files = pages_of(folder)
     told.check("files change", len(files) > 4, len(files))
     told.check("many hear", len(heard) == len(listeners) > 20, len(heard))
+    whole = links_of_pages(pages_in(heard_on(folder)))
+    told.check("each source is one link", len(whole) == 2, len(whole))
+    # How much is in the last files, from each of them on.
+    held_from = [sum(count_of(pages_in(data)) for data in files[at:]) for at in range(len(files))]
     over = 0
     for back, answer in heard:
         name = "from -%ds" % back
         told.check(name, answer.status == 200, answer)
-        # How many files were heard whole, at the end.
-        rest, whole = answer.body, 0
-        while whole < len(files) and rest.endswith(files[-1 - whole][1]):
-            rest = rest[: len(rest) - len(files[-1 - whole][1])]
-            whole += 1
-        over = max(over, whole)
-        if not rest:
+        if not answer.body:
             continue
-        told.check("%s: a file before" % name, whole < len(files), whole)
-        first = files[-1 - whole][1]
-        links, all_of_it = links_heard(rest), links_heard(first)
-        told.check("%s: its links" % name, len(links) <= len(all_of_it), len(links), len(all_of_it))
-        for link, one in zip(links[::-1], all_of_it[::-1]):
-            same = link == one or link is links[0] and all(
-                serial in dict(one) and packets[0] == dict(one)[serial][0] and packets[1:] == dict(one)[serial][len(dict(one)[serial]) - len(packets) + 1 :]
-                for serial, packets in link
-            )
-            told.check("%s: its packets" % name, same, [[it[0], len(it[1])] for it in link])
+        links = links_of_pages(pages_in(answer.body))
+        told.check("%s: its links" % name, len(links) <= len(whole), len(links), len(whole))
+        first, link = links[0], whole[-len(links)]
+        told.check("%s: what follows the first link" % name, bytes_of(links[1:]) == bytes_of(whole[len(whole) - len(links) + 1 :]))
+        # The link is heard from some page on, under one serial, after the page with which it began.
+        expected = [link[0], *link[len(link) - len(first) + 1 :]]
+        expected = [[*one[:2], first[0][2], at, *one[4:6]] for at, one in enumerate(expected)]
+        told.check("%s: its pages" % name, answer.body.startswith(b"".join(page_of(*one) for one in expected)), len(first))
+        over = max(over, sum(count_of(first) + sum(map(count_of, links[1:])) >= it for it in held_from))
     told.check("some hear over files", over > 2, over)
     err = station.stop()
     told.check("standard error", b"fault" not in err, err[-300:])
@@ -523,9 +620,12 @@ def pesters(program, work):
     with station.connect() as one:
         one.sendall(live)
         expected[live] = read_until(one, b"\r\n\r\n")
-        whole = sum(len(data) for _, _, _, data, _ in files[:-1]) + len(pages_of(folder)[-1])
-        while len(expected[live].partition(b"\r\n\r\n")[2]) < whole:
-            expected[live] += one.recv(65536)
+        one.settimeout(2)
+        with contextlib.suppress(TimeoutError):
+            while piece := one.recv(65536):
+                expected[live] += piece
+    got = bodies_of(pages_in(expected[live].partition(b"\r\n\r\n")[2]))
+    told.check("all that is kept is heard", got == [it for data in pages_of(folder) for it in bodies_of(pages_in(data))], len(got))
     told.check("what is asked for is there", sum(b" 200 OK" in it[:20] for it in expected.values()) > 10)
 
     def plain(text, got):

@@ -1,12 +1,15 @@
 -- Where the pages of a file end that was looked at again, whole.
-use Rattle.std.proofs.Common.{inl, inr, ◌≡◌, ◌<◌, ◌≤◌, ◌-◌, ◌^◌, ℕ, List, Result, Ok, Err, OnOk, length, min, take, sym, ap, ◌∙◌, subst, arith}
-use Rattle.std.proofs.lemmas.List.{take_all}
+use Rattle.std.proofs.Common.{inl, inr, ◌≡◌, ◌+◌, ◌++◌, ◌<◌, ◌≤◌, ◌-◌, ◌^◌, ℕ, Result, Ok, Err, OnOk, length, length-append, min, take, sym, ap, ◌∙◌, subst, arith}
+use Rattle.std.proofs.lemmas.List.{take-append-drop, take-append-le, take_all}
 use Rattle.disk_model.specs.Image.{DiskState}
 use Rattle.disk_model.specs.declared.disk.Disk.{Ghosts as DiskModel}
+use Rattle.ogg_page.specs.Page.{bytes_of_pages}
 use Rattle.serve_live.specs.Listening.{HasFailed}
+use Rattle.archive_cut.specs.Cut.{ends_of}
 use Rattle.archive_reading.specs.Ends.{EndsFrom}
 use Rattle.archive_reading.specs.Prefix.{PrefixState, prefix_bytes}
-use Rattle.archive_fetch.specs.Hearing.{HasGrown, HeardState, IsSameHeard}
+use Rattle.archive_fetch.specs.Hearing.{HasGrown, HasMet, HeardState, IsSameHeard}
+use Rattle.archive_fetch.specs.declared.meetings.Meeting.{Meeting}
 
 pub on_ok : {T E A B : Type 0} (r : Result T E) → (A → B) → OnOk r A → OnOk r B
 on_ok (Ok x) f a = f a
@@ -47,3 +50,16 @@ module _ {D : Type 0} (model : DiskModel D) where
         state = state;
         length_is = long;
       }
+
+  -- a file is heard up to where it meets the next one
+  pub met : (meeting : Meeting) (old new : HeardState D) → IsSameHeard model old new → HasGrown model meeting.end old new → HasMet model meeting old new
+  met meeting old new same grown pages tail sure is ends =
+      let place : ℕ = meeting.end in
+      let contents = (model.state old.source.disk).contents in
+      let long : length contents ≡ length pages + length tail = ap (λ l. length l) is ∙ length-append pages tail in
+      let end : new.source.end ≡ place = omega (arith, grown sure, long, ends.size) in
+      let bytes : prefix_bytes model.state new.source ≡ take place pages =
+      ap (λ (s : DiskState). take new.source.end s.contents) (same.disk.state sure) ∙ ap (λ n. take n contents) end ∙ ap (take place) is
+      ∙ take-append-le place pages tail (omega (arith, ends.size)) in
+      ap (λ l. l ++ bytes_of_pages (ends_of meeting.ended.items)) bytes ∙ ap (λ l. take place pages ++ l) (sym ends.pages)
+      ∙ take-append-drop place pages

@@ -1,5 +1,6 @@
 mod Contents
 mod Ending
+mod EndPages
 mod Numbers
 mod Placed
 mod Ranges

@@ -2,9 +2,13 @@
 use Rattle.std.specs.Prelude.{◌≡◌, ◌⊎◌, ℕ, List, ◌++◌, length, min}
 use Rattle.disk_model.specs.declared.disk.Disk.{Ghosts as DiskModel}
 use Rattle.serve_clients.specs.Client.{ClientState, cut}
+use Rattle.ogg_page.specs.Page.{bytes_of_pages}
 use Rattle.serve_live.specs.Listening.{Gives, HasFailed, IsLeft, ListenerState}
+use Rattle.archive_cut.specs.Cut.{ends_of}
 use Rattle.archive_reading.specs.Ends.{EndsFrom}
 use Rattle.archive_reading.specs.Prefix.{IsSameDisk, PrefixState, prefix_bytes}
+use Rattle.archive_fetch.specs.Meetings.{EndIn}
+use Rattle.archive_fetch.specs.declared.meetings.Meeting.{Meeting}
 
 pub record HeardState (D : Type 0) : Type 0 where
   pub source : PrefixState D
@@ -74,3 +78,17 @@ pub record Ends {D : Type 0} (model : DiskModel D) (client : ClientState) (heard
     (rest : HeardState D) : Type 0 where
   pub same : IsSameHeard model heard rest
   pub becomes : ((after ≡ client) × HasEnded model heard rest) ⊎ ((after ≡ cut client) × HasFailedToEnd model heard rest)
+
+-- ---- a file that meets the next one
+-- Its link goes on there. Of its pages it is committed up to those that end the link, and no other is left out.
+abbrev pub HasMet : {D : Type 0} → DiskModel D → Meeting → HeardState D → HeardState D → Type 0
+HasMet model meeting old new =
+    (pages tail : List ℕ) → model.is_honest old.source.disk → (model.state old.source.disk).contents ≡ pages ++ tail
+    → EndIn pages meeting.end meeting.ended.items
+    → prefix_bytes model.state new.source ++ bytes_of_pages (ends_of meeting.ended.items) ≡ pages
+
+pub record MeetsNext {D : Type 0} (model : DiskModel D) (meeting : Meeting) (client : ClientState) (heard : HeardState D)
+    (after : ClientState) (rest : HeardState D) : Type 0 where
+  pub same : IsSameHeard model heard rest
+  pub becomes : ((after ≡ client) × HasMet model meeting heard rest)
+      ⊎ ((after ≡ cut client) × HasFailed (model.failures heard.source.disk) (model.failures rest.source.disk))

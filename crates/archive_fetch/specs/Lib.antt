@@ -5,3 +5,4 @@ pub mod Bodies
 pub mod Hearing
 pub mod Fetching
 pub mod Moments
+pub mod Meetings

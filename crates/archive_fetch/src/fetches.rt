@@ -8,13 +8,14 @@ ghost use Rattle.serve_clients.specs.Line.{moved_on, taken_off};
 ghost use Rattle.serve_clients.specs.declared.client.Stage.TheVariants.{Cut as CutOf, Ending as EndingOf, Hearing as HearingOf, Sending as SendingOf};
 ghost use Rattle.archive_fetch.specs.Bodies.{BodyState, HasPulled};
 ghost use Rattle.serve_live.specs.Listening.{has_heard_all};
-ghost use Rattle.archive_fetch.specs.Hearing.{Ends, Grows, HeardState, Hears};
+ghost use Rattle.archive_fetch.specs.Hearing.{Ends, Grows, HeardState, Hears, MeetsNext};
 ghost use Rattle.archive_fetch.specs.Fetching.{IsSupplied, is_read, without_peer};
 ghost use Rattle.archive_fetch.specs.declared.fetches.Content.TheVariants.{File as FileOf, Given as GivenOf, Heard as HeardOf};
 
 use crate::bodies::Body;
 use crate::heads::Memory;
 use crate::hearing::Heard;
+use crate::meetings::Meeting;
 use disk_model::Disk;
 use serve_clients::{After, Client, Clients, Kinds, Line, Stage, Trouble};
 use serve_texts::Visit;
@@ -510,6 +511,36 @@ impl<D: Disk + Drop> Fetches<D> {
         if let Some(content) = self.contents.get_mut(id as usize) {
             let taken = std::mem::replace(content, Content::Given);
             *content = ended(client, taken);
+        }
+    }
+
+    /// The file that this connection hears has ended, and meets the next one: it is heard up to there. After a fault of the
+    /// file the connection is cut.
+    pub fn file_meets(&mut self, key: usize, meeting: &Meeting)
+        ensures meets { (client : ClientState) (id : ℕ) (heard : HeardState D) → get self.old.clients.slots key ≡ Some client
+            → client.session ≡ Some id → get self.old.contents id ≡ Some (HeardOf heard)
+            → (after : ClientState) × (rest : HeardState D) × MeetsNext D.Disk meeting.now client heard after rest
+            × (get self.new.clients.slots key ≡ Some after) × (get self.new.contents id ≡ Some (HeardOf rest)) }
+        ensures contents { (client : ClientState) (other : ℕ) → get self.old.clients.slots key ≡ Some client → client.session ≢ Some other
+            → get self.new.contents other ≡ get self.old.contents other }
+        ensures none { get self.old.clients.slots key ≡ None → self.new ≡ self.old }
+        ensures others { OthersStay key self.old.clients self.new.clients }
+    {
+        self.grows(key, meeting.end);
+    }
+
+    /// What this connection hears of a file, if it does.
+    pub fn heard(&self, key: usize) -> Option<&Heard<D>>
+        ensures only { IfSome result (λ heard. (client : ClientState) × (id : ℕ) × (get self.now.clients.slots key ≡ Some client)
+            × (client.session ≡ Some id) × (get self.now.contents id ≡ Some (HeardOf heard.now))) }
+        ensures each { (client : ClientState) (id : ℕ) (heard : HeardState D) → get self.now.clients.slots key ≡ Some client
+            → client.session ≡ Some id → get self.now.contents id ≡ Some (HeardOf heard) → IsSome result }
+    {
+        let client = self.clients.slots.get(key)?;
+        let id = client.session?;
+        match self.contents.get(id as usize) {
+            Some(Content::Heard(heard)) => Some(heard),
+            _ => None,
         }
     }
 

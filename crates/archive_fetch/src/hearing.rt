@@ -1,7 +1,8 @@
 //! What was recorded from a time on, and what goes on to be recorded.
-ghost use Rattle.std.specs.Prelude.{◌≡◌, ◌++◌, ◌≤◌, ◌<◌, ◌^◌, [], ℕ, List, None, Some, length, IfOk, IsErr, OnErr, OnOk};
+ghost use Rattle.std.specs.Prelude.{◌≡◌, ◌++◌, ◌≤◌, ◌<◌, ◌^◌, ◌+◌, ◌-◌, [], ℕ, List, None, Some, length, min, IfOk, IsErr, OnErr, OnOk};
 ghost use Rattle.ogg_page.specs.Page.{Page};
 ghost use Rattle.link_chain.specs.Links.{AreLinks};
+ghost use Rattle.serve_live.specs.Following.{GoesOn, names_on};
 ghost use Rattle.serve_live.specs.Hearing.{IsHearing};
 ghost use Rattle.serve_live.specs.Joined.{IsNew};
 ghost use Rattle.serve_live.specs.Listening.{Gives, HasFailed, has_heard_all};
@@ -11,6 +12,8 @@ ghost use Rattle.archive_reading.specs.Prefix.{prefix_bytes};
 ghost use Rattle.archive_times.specs.declared.line.Join.{Join as JoinOf};
 ghost use Rattle.archive_fetch.specs.Hearing.{HasEnded, HasFailedToEnd, HasGrown, IsReadable, IsSameHeard};
 
+use crate::heads::Memory;
+use crate::meetings::Meeting;
 use archive_cut::{CutFault, Stand, hear_from};
 use archive_reading::{Prefix, end_from};
 use disk_model::Disk;
@@ -70,6 +73,32 @@ impl<D: Disk + Drop> Heard<D> {
             }),
         }
     }
+
+    /// The file that follows, from where the two meet on: its pages are heard as those of the link that was heard so far.
+    /// The file so far is to be heard up to there, and no further. Memory is taken for the streams.
+    pub fn hears_on(
+        &self,
+        alloc: Global,
+        source: Prefix<D>,
+        file: u64,
+        meeting: &Meeting,
+    ) -> Result<Heard<D>, Memory>
+        ensures on { IfOk result (λ next. GoesOn meeting.now.begun_end
+            (names_on self.now.listener.names meeting.now.ended.items meeting.now.begun.items) next.listener) }
+        ensures source { IfOk result (λ next. next.source ≡ source) }
+        ensures file { IfOk result (λ next. next.file ≡ file) }
+    {
+        let ended = meeting.ended.as_slice();
+        let begun = meeting.begun.as_slice();
+        match self.listener.go_on(alloc, meeting.begun_end, ended, begun) {
+            Ok(listener) => Ok(Heard {
+                source,
+                listener,
+                file,
+            }),
+            Err(memory) => Err(memory),
+        }
+    }
 }
 
 impl<D: Disk> Heard<D> {
@@ -113,6 +142,13 @@ impl<D: Disk> Heard<D> {
         ensures { result ≡ has_heard_all self.now.source.end self.now.listener }
     {
         self.listener.has_heard_all(self.source.end())
+    }
+
+    /// Whether more of the file is heard than up to this place.
+    pub fn has_heard_past(&self, place: u64) -> bool
+        ensures { result ≡ has_heard_all (min (place + 1) (2 ^ 64 - 1)) self.now.listener }
+    {
+        self.listener.has_heard_all(place.saturating_add(1))
     }
 
     /// Fills the buffer with the bytes that are heard next. It returns how many these are. No memory is taken.

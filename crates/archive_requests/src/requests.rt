@@ -39,6 +39,8 @@ pub trait Shelf<D: Disk> {
 pub struct Present {
     /// How many bytes of the newest file are committed.
     pub committed: u64,
+    /// Where the pages end with which the newest file's first link began, if that is still open.
+    pub begun: Option<u64>,
     /// Whether nothing more is recorded.
     pub is_finished: bool,
     /// When the round began, in milliseconds since the start of the program.
@@ -141,7 +143,7 @@ impl<'a, D: Disk + Drop> Requests<'a, D> {
                 shelf.file(number, present.committed),
             ),
             Wish::From(since) => match self.time_of(since, day) {
-                Some(since) => self.from(request, since, shelf, present.committed),
+                Some(since) => self.from(request, since, shelf, present),
                 None => self.refused(Answer::NotFound),
             },
             Wish::Between(since, until) => {
@@ -243,9 +245,9 @@ impl<'a, D: Disk + Drop> Requests<'a, D> {
         request: &Request<'_>,
         since: u64,
         shelf: &mut S,
-        committed: u64,
+        present: Present,
     ) -> Result<Response<'a, D>, Memory> {
-        let heard = match self.heard_from(since, shelf, committed) {
+        let heard = match self.heard_from(since, shelf, present) {
             Ok(Some(heard)) => heard,
             Ok(None) => return self.refused(Answer::NotFound),
             Err(Unheard::Memory) => return Err(Memory),

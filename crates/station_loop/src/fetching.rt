@@ -51,8 +51,13 @@ impl<'a, D: Disk + Drop, R: Recorded<D> + Shelf<D> + Drop> Running<'a, D, R> {
 
     /// How what is recorded stands in this round.
     fn present(&self) -> Present {
+        let newest = self.stations.newest();
         Present {
-            committed: self.stations.newest().hub().end(),
+            committed: newest.hub().end(),
+            begun: match newest.place() {
+                Some(place) if place.begin == 0 => Some(place.begun),
+                _ => None,
+            },
             is_finished: self.stations.is_finished(self.now),
             now: self.now,
         }
