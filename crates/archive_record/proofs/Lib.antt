@@ -1,6 +1,15 @@
+mod Begun
+mod Changed
 mod Ends
+mod Fed
+mod Given
+mod Kept
+mod Leading
+mod Followed
+mod Now
 mod Numbers
 mod Known
 mod Left
+mod Recovered
 mod Retained
 mod Spelled

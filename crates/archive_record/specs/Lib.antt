@@ -1,9 +1,15 @@
 pub mod Account
+pub mod Anybody
+pub mod Changing
 pub mod Files
 pub mod FilesState
 pub mod Filing
 pub mod Opening
+pub mod Recorded
+pub mod Recovering
 pub mod Resting
 pub mod Retention
 pub mod Rotating
 pub mod Spelling
+pub mod Stepping
+pub mod Writing

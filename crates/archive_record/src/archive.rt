@@ -1,11 +1,22 @@
 //! The machine of an archive: an input is recorded into the files of a folder, one after the other.
-ghost use Rattle.std.specs.Prelude.{◌≡◌, ◌<◌, IfSome, None, true, false};
+ghost use Rattle.std.specs.Prelude.{◌≡◌, ◌≢◌, ◌⊎◌, ◌↔◌, ◌<◌, [], Bool, IfErr, IfOk, IfSome, IsOk, IsTrue, OnErr, OnOk, None, Some, Ok, Err, true, false, vec_capacity};
 ghost use Rattle.file_recorder.specs.Recorder.{committed};
+ghost use Rattle.import_record.specs.Reading.{IsDue, LacksMemoryAtEnd, LacksMemoryFor, TellsJunk};
+ghost use Rattle.import_record.specs.Resuming.{Resumes};
+ghost use Rattle.import_record.specs.Running.{nothing};
+ghost use Rattle.import_record.specs.Steps.{state_of};
+ghost use Rattle.link_chain.specs.ChainState.{is_open};
+ghost use Rattle.ogg_command.specs.declared.refusal.Refusal.{Refusal as RefusalOf};
+ghost use Rattle.archive_record.specs.Changing.{GoesOver, HasBegun, HasEnded, HasNotEnded, NextIsDue};
 ghost use Rattle.archive_record.specs.Files.{AllKept};
 ghost use Rattle.archive_record.specs.Filing.{HasExactly};
+ghost use Rattle.archive_record.specs.Resting.{IsAtRest};
+ghost use Rattle.archive_record.specs.Stepping.{HasFinished, HasFlushed, HasRunAgain, HasStepped, HasStopped};
+ghost use Rattle.archive_record.specs.Writing.{IsNow, Writing};
+ghost use Rattle.archive_record.specs.declared.newest.Newest.{Newest as NewestOf};
 
 use crate::beside::Beside;
-use crate::ending::{Unended, end_open, end_streams};
+use crate::ending::{Unended, end_held, end_open, tell_unended};
 use crate::files::BeginFault;
 use crate::newest::Newest;
 use crate::rotation::{Rotation, Rules};
@@ -14,7 +25,6 @@ use disk_model::{Disk, Memory};
 use feed_runner::Runner;
 use file_recorder::Recorder;
 use import_record::{Answered, ImportRun, RecordFault, Step, Taken, run_all};
-use link_chain::is_open;
 use ogg_command::Command;
 use std::alloc::Global;
 use std::io;
@@ -61,10 +71,9 @@ pub struct Archive<D: Disk, F: Folder<File = D>> {
 }
 
 /// A copy of the serials that a file has.
-pub(crate) fn serials_of<D: Disk>(
-    alloc: Global,
-    recorder: &Recorder<D>,
-) -> Result<Vec<u32>, Memory> {
+pub(crate) fn serials_of<D: Disk>(alloc: Global, recorder: &Recorder<D>) -> Result<Vec<u32>, Memory>
+    ensures { IfOk result (λ serials. serials.items ≡ recorder.now.chain.serials) }
+{
     recorder.serials().as_slice().to_vec(alloc)
 }
 
@@ -81,6 +90,10 @@ impl<D: Disk + Drop, F: Folder<File = D> + Drop> Archive<D, F> {
         beside: &mut B,
     ) -> Result<Archive<D, F>, ArchiveFault>
         requires { F.is_honest folder → AllKept (F.names folder) (F.file folder) }
+        // Only what rests is recorded into, and nothing is to be begun again.
+        ensures rests { IfOk result (λ archive. IfSome archive.newest (λ newest. IsAtRest newest.recorder)) }
+        ensures none { IfOk result (λ archive. archive.again.items ≡ []) }
+        ensures rules { IfOk result (λ archive. archive.rotation.rules ≡ rules) }
     {
         let mut rotation = Rotation::open(alloc, folder, rules, now)?;
         let newest = match rotation.open_newest(beside)? {
@@ -110,7 +123,9 @@ impl<D: Disk + Drop, F: Folder<File = D> + Drop> Archive<D, F> {
     }
 
     /// How many commands wait for the commit of their group.
-    pub fn held(&self) -> u64 {
+    pub fn held(&self) -> u64
+        ensures { IfSome self.now.newest (λ newest. result ≡ newest.recorder.held) }
+    {
         match &self.newest {
             Some(newest) => newest.recorder.held(),
             None => 0,
@@ -118,7 +133,9 @@ impl<D: Disk + Drop, F: Folder<File = D> + Drop> Archive<D, F> {
     }
 
     /// Whether the disk of the newest file has failed: `recover` goes on then.
-    pub fn is_failed(&self) -> bool {
+    pub fn is_failed(&self) -> bool
+        ensures { IfSome self.now.newest (λ newest. result ≡ newest.recorder.file.failed) }
+    {
         match &self.newest {
             Some(newest) => newest.recorder.is_failed(),
             None => false,
@@ -134,7 +151,10 @@ impl<D: Disk + Drop, F: Folder<File = D> + Drop> Archive<D, F> {
     }
 
     /// The newest file was opened: its times are gone on with.
-    fn opened<B: Beside>(&mut self, now: u64, beside: &mut B) {
+    fn opened<B: Beside>(&mut self, now: u64, beside: &mut B)
+        ensures rest { self.new ≡ record self.old { rotation = self.new.rotation } }
+        ensures rules { self.new.rotation.rules ≡ self.old.rotation.rules }
+    {
         if let Some(newest) = &self.newest {
             self.rotation
                 .opened(newest.name, newest.recorder.end(), beside);
@@ -143,7 +163,11 @@ impl<D: Disk + Drop, F: Folder<File = D> + Drop> Archive<D, F> {
     }
 
     /// A line of times is written, if what is committed says more than the last one.
-    fn tell_time<B: Beside>(&mut self, now: u64, beside: &mut B) {
+    fn tell_time<B: Beside>(&mut self, now: u64, beside: &mut B)
+        ensures none { self.old.newest ≡ None → (self.new ≡ self.old) × (beside.new ≡ beside.old) }
+        ensures rest { self.new ≡ record self.old { rotation = self.new.rotation } }
+        ensures times { self.new.rotation ≡ record self.old.rotation { last = self.new.rotation.last; written = self.new.rotation.written } }
+    {
         if let Some(newest) = &self.newest {
             let (end, join) = (newest.recorder.end(), newest.open_join());
             self.rotation.tell_time(end, join, now, beside);
@@ -151,7 +175,9 @@ impl<D: Disk + Drop, F: Folder<File = D> + Drop> Archive<D, F> {
     }
 
     /// Whether the next command belongs into a new file.
-    fn is_due(&self, now: u64) -> bool {
+    fn is_due(&self, now: u64) -> bool
+        ensures { IsTrue result ↔ NextIsDue self.now.rotation.rules.limits now self.now.newest }
+    {
         match &self.newest {
             Some(newest) => {
                 let bytes = newest.recorder.length();
@@ -163,15 +189,34 @@ impl<D: Disk + Drop, F: Folder<File = D> + Drop> Archive<D, F> {
     }
 
     /// Keeps what waits. Call it before more of the input is waited for.
-    pub fn flush<B: Beside>(&mut self, now: u64, beside: &mut B) {
-        if let Some(newest) = &mut self.newest {
-            newest.run_flush();
-        }
+    pub fn flush<B: Beside>(&mut self, now: u64, beside: &mut B)
+        ensures flushes { (before : Writing D) → IsNow before self.old.newest → HasFlushed D.Disk before self.new.newest }
+        ensures none { self.old.newest ≡ None → (self.new ≡ self.old) × (beside.new ≡ beside.old) }
+        // Beside that only a line of times is written.
+        ensures rest { self.new ≡ record self.old { rotation = self.new.rotation; newest = self.new.newest } }
+        ensures times { self.new.rotation ≡ record self.old.rotation { last = self.new.rotation.last; written = self.new.rotation.written } }
+    {
+        self.flush_newest();
         self.committed(now, beside);
     }
 
+    /// The newest file answers a flush, if there is one.
+    fn flush_newest(&mut self)
+        ensures flushes { (before : Writing D) → IsNow before self.old.newest → HasFlushed D.Disk before self.new.newest }
+        ensures none { self.old.newest ≡ None → self.new ≡ self.old }
+        ensures rest { self.new ≡ record self.old { newest = self.new.newest } }
+    {
+        if let Some(newest) = &mut self.newest {
+            newest.run_flush();
+        }
+    }
+
     /// After a commit a line of times is written, unless one was within the last second.
-    fn committed<B: Beside>(&mut self, now: u64, beside: &mut B) {
+    fn committed<B: Beside>(&mut self, now: u64, beside: &mut B)
+        ensures none { self.old.newest ≡ None → (self.new ≡ self.old) × (beside.new ≡ beside.old) }
+        ensures rest { self.new ≡ record self.old { rotation = self.new.rotation } }
+        ensures times { self.new.rotation ≡ record self.old.rotation { last = self.new.rotation.last; written = self.new.rotation.written } }
+    {
         if self.held() == 0 && !self.is_failed() && self.rotation.is_time_due(now) {
             self.tell_time(now, beside);
         }
@@ -187,7 +232,22 @@ impl<D: Disk + Drop, F: Folder<File = D> + Drop> Archive<D, F> {
         import: &mut ImportRun,
         now: u64,
         beside: &mut B,
-    ) -> Result<Answered, ArchiveFault> {
+    ) -> Result<Answered, ArchiveFault>
+        // If no file is due, nothing is done.
+        ensures not_due { (NextIsDue self.old.rotation.rules.limits now self.old.newest → ⊥)
+            → (result ≡ Ok nothing) × (self.new ≡ self.old) × (import.new ≡ import.old) × (beside.new ≡ beside.old) }
+        // If one is, the newest ends and the next one begins, unless the disk fails before.
+        ensures due { (newest : NewestOf D) → NextIsDue self.old.rotation.rules.limits now self.old.newest → self.old.newest ≡ Some newest
+            → IfOk result (λ answered. ((before : Writing D) → IsNow before self.old.newest
+            → GoesOver D.Disk F.is_honest F.file self.old.rotation.files.folder self.old.rotation.rules.keeping.bytes
+            import.old import.new answered before self.new.newest)
+            ⊎ (((before : Writing D) → IsNow before self.old.newest
+            → HasNotEnded D.Disk self.old.rotation.files.out newest before self.new.newest) × (answered ≡ nothing) × (import.new ≡ import.old))) }
+        // If there is none, the next one begins alone.
+        ensures none { self.old.newest ≡ None → IfOk result (λ answered. (import.new ≡ import.old)
+            × HasBegun D.Disk self.old.rotation.rules.keeping.bytes self.old.again.items answered self.new.newest) }
+        ensures rules { self.new.rotation.rules ≡ self.old.rotation.rules }
+    {
         if self.is_due(now) {
             self.begin_next(import, now, beside)
         } else {
@@ -204,7 +264,24 @@ impl<D: Disk + Drop, F: Folder<File = D> + Drop> Archive<D, F> {
         import: &mut ImportRun,
         now: u64,
         beside: &mut B,
-    ) -> Result<Step, ArchiveFault> {
+    ) -> Result<Step, ArchiveFault>
+        ensures none { self.old.newest ≡ None → (result ≡ Ok (Step.Ended None)) × (self.new ≡ self.old)
+            × (import.new ≡ import.old) × (beside.new ≡ beside.old) }
+        // The newest file answers what the step runs, and the input moves on by that.
+        ensures steps { (before : Writing D) → IsNow before self.old.newest
+            → IfOk result (λ step. HasStepped D.Disk step import.old import.new before self.new.newest) }
+        ensures stops { (before : Writing D) → IsNow before self.old.newest
+            → IfErr result (λ fault. HasStopped D.Disk fault before self.new.newest) }
+        ensures due { (before : Writing D) → IsNow before self.old.newest
+            → IfOk result (λ step. IsDue step before.progress.now.held import.old.input.pages import.new.input.pages) }
+        ensures junk { self.old.newest ≢ None → IfOk result (λ step. TellsJunk step import.old.input.pages (Some [])
+            import.old.input.junk import.new.input.pages (Some []) import.new.input.junk) }
+        ensures memory { result ≡ Err (ArchiveFault.Input RecordFault.Memory)
+            → LacksMemoryFor import.old import.new (vec_capacity import.old.input.mender.room) }
+        // Beside that only a line of times is written.
+        ensures rest { self.new ≡ record self.old { rotation = self.new.rotation; newest = self.new.newest } }
+        ensures times { self.new.rotation ≡ record self.old.rotation { last = self.new.rotation.last; written = self.new.rotation.written } }
+    {
         let Some(newest) = &mut self.newest else {
             return Ok(Step::Ended { junk: None });
         };
@@ -224,7 +301,17 @@ impl<D: Disk + Drop, F: Folder<File = D> + Drop> Archive<D, F> {
         import: &mut ImportRun,
         now: u64,
         beside: &mut B,
-    ) -> Result<Answered, ArchiveFault> {
+    ) -> Result<Answered, ArchiveFault>
+        ensures next { (newest : NewestOf D) → self.old.newest ≡ Some newest
+            → IfOk result (λ answered. ((before : Writing D) → IsNow before self.old.newest
+            → GoesOver D.Disk F.is_honest F.file self.old.rotation.files.folder self.old.rotation.rules.keeping.bytes
+            import.old import.new answered before self.new.newest)
+            ⊎ (((before : Writing D) → IsNow before self.old.newest
+            → HasNotEnded D.Disk self.old.rotation.files.out newest before self.new.newest) × (answered ≡ nothing) × (import.new ≡ import.old))) }
+        ensures none { self.old.newest ≡ None → IfOk result (λ answered. (import.new ≡ import.old)
+            × HasBegun D.Disk self.old.rotation.rules.keeping.bytes self.old.again.items answered self.new.newest) }
+        ensures rules { self.new.rotation.rules ≡ self.old.rotation.rules }
+    {
         let Some(goes_on) = self.end_newest(import, now, beside)? else {
             return Ok(Answered::nothing());
         };
@@ -236,7 +323,12 @@ impl<D: Disk + Drop, F: Folder<File = D> + Drop> Archive<D, F> {
     }
 
     /// Begins the link again that was open, in a new file, and keeps that.
-    fn begin_again(&mut self) -> Result<Answered, ArchiveFault> {
+    fn begin_again(&mut self) -> Result<Answered, ArchiveFault>
+        ensures runs { (before : Writing D) → IsNow before self.old.newest
+            → IfOk result (λ answered. HasRunAgain D.Disk self.old.again.items answered before self.new.newest) }
+        ensures none { self.old.newest ≡ None → (result ≡ Ok nothing) × (self.new ≡ self.old) }
+        ensures rotation { self.new.rotation ≡ self.old.rotation }
+    {
         let Some(newest) = &mut self.newest else {
             return Ok(Answered::nothing());
         };
@@ -257,16 +349,25 @@ impl<D: Disk + Drop, F: Folder<File = D> + Drop> Archive<D, F> {
         import: &mut ImportRun,
         now: u64,
         beside: &mut B,
-    ) -> Result<Option<bool>, ArchiveFault> {
+    ) -> Result<Option<bool>, ArchiveFault>
+        ensures ended { (before : Writing D) (goes_on : Bool) → IsNow before self.old.newest → result ≡ Ok (Some goes_on)
+            → HasEnded D.Disk (F.is_honest self.old.rotation.files.folder) (F.file self.new.rotation.files.folder) goes_on before
+            × Resumes [] before.progress.now.chain.serials (state_of import.old) (state_of import.new) self.new.again.items
+            × (self.new.newest ≡ None) }
+        ensures stays { (before : Writing D) (newest : NewestOf D) → self.old.newest ≡ Some newest → IsNow before self.old.newest
+            → result ≡ Ok None → HasNotEnded D.Disk self.old.rotation.files.out newest before self.new.newest }
+        ensures unread { result ≡ Ok None → import.new ≡ import.old }
+        ensures none { self.old.newest ≡ None → (result ≡ Ok (Some false)) × (self.new ≡ self.old)
+            × (import.new ≡ import.old) × (beside.new ≡ beside.old) }
+        ensures input { import.new.input ≡ import.old.input }
+        ensures rules { self.new.rotation.rules ≡ self.old.rotation.rules }
+    {
         let Some(newest) = self.newest.take() else {
             return Ok(Some(false));
         };
         let mut newest = newest;
         let serials = serials_of(self.alloc, &newest.recorder);
-        let goes_on = is_open(newest.recorder.streams());
-        // The ends share one commit with what waits.
-        newest.recorder.hold_all();
-        let ended = end_streams(&mut newest.recorder);
+        let (goes_on, ended) = end_held(&mut newest.recorder);
         let open_join = newest.open_join();
         let Newest {
             name,
@@ -289,13 +390,9 @@ impl<D: Disk + Drop, F: Folder<File = D> + Drop> Archive<D, F> {
             }
         }
         self.before = self.before.saturating_add(end);
-        match ended {
-            Ok(()) => {}
-            Err(Unended::Refused(refusal)) => beside.refused(import.offset(), refusal),
-            Err(_) => beside.lost(import.offset(), end),
-        }
+        tell_unended(ended, import.offset(), end, beside);
         self.begins_again(import, serials)?;
-        Ok(Some(goes_on && ended.is_ok()))
+        Ok(Some(goes_on))
     }
 
     /// What begins the link again that is open in the input, in a file that has none of these serials.
@@ -303,7 +400,14 @@ impl<D: Disk + Drop, F: Folder<File = D> + Drop> Archive<D, F> {
         &mut self,
         import: &mut ImportRun,
         serials: Result<Vec<u32>, Memory>,
-    ) -> Result<(), ArchiveFault> {
+    ) -> Result<(), ArchiveFault>
+        ensures resumes { OnOk result (IfOk serials (λ taken.
+            Resumes [] taken.items (state_of import.old) (state_of import.new) self.new.again.items)) }
+        ensures known { OnOk result (IsOk serials) }
+        ensures input { import.new.input ≡ import.old.input }
+        ensures rest { self.new ≡ record self.old { again = self.new.again } }
+        ensures err { OnErr result (state_of import.new ≡ state_of import.old) }
+    {
         let serials = match serials {
             Ok(serials) => serials,
             Err(_) => return Err(ArchiveFault::Memory),
@@ -323,7 +427,19 @@ impl<D: Disk + Drop, F: Folder<File = D> + Drop> Archive<D, F> {
         import: &mut ImportRun,
         now: u64,
         beside: &mut B,
-    ) -> Result<Taken, ArchiveFault> {
+    ) -> Result<Taken, ArchiveFault>
+        ensures none { self.old.newest ≡ None → (result ≡ Ok (record { mend = None; answered = nothing })) × (self.new ≡ self.old)
+            × (import.new ≡ import.old) × (beside.new ≡ beside.old) }
+        ensures ends { (before : Writing D) → IsNow before self.old.newest
+            → IfOk result (λ taken. HasFinished D.Disk taken import.old import.new before self.new.newest) }
+        ensures stops { (before : Writing D) → IsNow before self.old.newest
+            → IfErr result (λ fault. HasStopped D.Disk fault before self.new.newest) }
+        ensures memory { result ≡ Err (ArchiveFault.Input RecordFault.Memory)
+            → LacksMemoryAtEnd import.old import.new (vec_capacity import.old.input.mender.room) }
+        // Beside that only a line of times is written.
+        ensures rest { self.new ≡ record self.old { rotation = self.new.rotation; newest = self.new.newest } }
+        ensures times { self.new.rotation ≡ record self.old.rotation { last = self.new.rotation.last; written = self.new.rotation.written } }
+    {
         let Some(newest) = &mut self.newest else {
             return Ok(Taken {
                 mend: None,
@@ -340,15 +456,35 @@ impl<D: Disk + Drop, F: Folder<File = D> + Drop> Archive<D, F> {
     }
 
     /// Ends what is open in the newest file, and keeps that with what waits.
-    pub fn end_open<B: Beside>(&mut self, now: u64, beside: &mut B) -> Result<(), Unended> {
-        let ended = match &mut self.newest {
-            Some(newest) => end_open(&mut newest.recorder),
-            None => Ok(()),
-        };
+    pub fn end_open<B: Beside>(&mut self, now: u64, beside: &mut B) -> Result<(), Unended>
+        ensures rests { OnOk result (IfSome self.new.newest (λ newest. IsAtRest newest.recorder)) }
+        ensures failed { result ≡ Err Unended.Failed → IfSome self.new.newest (λ newest. newest.recorder.file.failed ≡ true) }
+        ensures refused { (refusal : RefusalOf) → result ≡ Err (Unended.Refused refusal)
+            → IfSome self.new.newest (λ newest. is_open newest.recorder.chain ≡ true) }
+        ensures none { self.old.newest ≡ None → (result ≡ Ok tt) × (self.new ≡ self.old) × (beside.new ≡ beside.old) }
+        ensures rest { self.new ≡ record self.old { rotation = self.new.rotation; newest = self.new.newest } }
+        ensures times { self.new.rotation ≡ record self.old.rotation { last = self.new.rotation.last; written = self.new.rotation.written } }
+    {
+        let ended = self.end_open_newest();
         if ended.is_ok() {
             self.tell_time(now, beside);
         }
         ended
+    }
+
+    /// Ends what is open in the newest file, if there is one.
+    fn end_open_newest(&mut self) -> Result<(), Unended>
+        ensures rests { OnOk result (IfSome self.new.newest (λ newest. IsAtRest newest.recorder)) }
+        ensures failed { result ≡ Err Unended.Failed → IfSome self.new.newest (λ newest. newest.recorder.file.failed ≡ true) }
+        ensures refused { (refusal : RefusalOf) → result ≡ Err (Unended.Refused refusal)
+            → IfSome self.new.newest (λ newest. is_open newest.recorder.chain ≡ true) }
+        ensures none { self.old.newest ≡ None → (result ≡ Ok tt) × (self.new ≡ self.old) }
+        ensures rest { self.new ≡ record self.old { newest = self.new.newest } }
+    {
+        match &mut self.newest {
+            Some(newest) => end_open(&mut newest.recorder),
+            None => Ok(()),
+        }
     }
 
     /// Ends the newest file, if there is one: it is cut to its pages, and nothing writes it again. Returns whether that

@@ -8,10 +8,13 @@ ghost use Rattle.link_chain.specs.ChainState.{is_open};
 ghost use Rattle.link_chain.specs.Recording.{Recording};
 ghost use Rattle.ogg_command.specs.declared.command.Command.{Command as CommandOf};
 ghost use Rattle.ogg_command.specs.declared.refusal.Refusal.{Refusal as RefusalOf};
+ghost use Rattle.archive_record.specs.Changing.{EndsOpen, holding_all};
 ghost use Rattle.archive_record.specs.Resting.{IsAtRest};
 
+use crate::beside::Beside;
 use disk_model::Disk;
 use file_recorder::Recorder;
+use link_chain::is_open;
 use ogg_command::Refusal;
 
 /// Why a stream is open still, or its end isn't kept.
@@ -56,5 +59,34 @@ pub fn end_streams<D: Disk>(recorder: &mut Recorder<D>) -> Result<(), Unended>
     match file_recorder::end_streams(recorder) {
         Ok(()) => Ok(()),
         Err(refusal) => Err(Unended::Refused(refusal)),
+    }
+}
+
+/// Ends the streams that are open in a file, in one commit with what waits. Returns whether the next file goes on with it:
+/// if a link was open, and each of its streams was ended.
+pub(crate) fn end_held<D: Disk>(recorder: &mut Recorder<D>) -> (bool, Result<(), Unended>)
+    ensures { (before : Progress D) → before.now ≡ recorder.old → (last : Progress D) × (last.now ≡ recorder.new)
+        × EndsOpen D.Disk (holding_all before) last result.0 }
+{
+    let was_open = is_open(recorder.streams());
+    recorder.hold_all();
+    match end_streams(recorder) {
+        Ok(()) => (was_open, Ok(())),
+        Err(unended) => (false, Err(unended)),
+    }
+}
+
+/// Tells that not all that was open in a file was ended, when the input was read up to this offset. The file has ended with
+/// so many bytes.
+pub(crate) fn tell_unended<B: Beside>(
+    ended: Result<(), Unended>,
+    offset: u64,
+    end: u64,
+    beside: &mut B,
+) {
+    match ended {
+        Ok(()) => {}
+        Err(Unended::Refused(refusal)) => beside.refused(offset, refusal),
+        Err(Unended::Failed) => beside.lost(offset, end),
     }
 }

@@ -8,7 +8,7 @@ ghost use Rattle.ogg_command.specs.declared.command.Command.{Command as CommandO
 ghost use Rattle.file_recorder.specs.Recorder.{IsIn, committed, staged};
 ghost use Rattle.archive_record.specs.Account.{LeadsTo};
 ghost use Rattle.archive_record.specs.Files.{highest};
-ghost use Rattle.archive_record.specs.Filing.{HasExactly};
+ghost use Rattle.archive_record.specs.Filing.{HasExactly, IsNew};
 ghost use Rattle.archive_record.specs.Resting.{IsAtRest};
 
 use crate::archive::ArchiveFault;
@@ -19,7 +19,7 @@ use crate::opening::open_sound;
 use archive_folder::{FileName, Folder};
 use archive_history::{calls_are_events, calls_lead_on, events_lead_on};
 use disk_model::{Disk, DiskFault};
-use file_recorder::{Recorded, Recorder};
+use file_recorder::{Recorded, Recorder, images_show_one_recording};
 use gate_file::OpenFault;
 use std::alloc::Global;
 
@@ -234,10 +234,13 @@ pub(crate) fn first_recorder<D: Disk + Drop, F: Folder<File = D>>(
     requires out { files.old.out ≡ Some name.number }
     requires fresh { D.is_honest disk → D.state disk ≡ settled [] }
     ensures works { IfOk result (λ recorder. (recorder.held ≡ 0) × (recorder.file.failed ≡ false)) }
+    ensures unwritten { IfOk result (IsNew D.Disk) }
     ensures same { IfOk result (λ recorder. files.new ≡ files.old) }
     ensures none { OnErr result (files.new.out ≡ None) }
     ensures memory { result ≢ Err ArchiveFault.Numbers }
 {
+    // For the proof alone.
+    images_show_one_recording();
     match Recorder::open_empty(alloc, disk) {
         Ok(recorder) => {
             let mut recorder = recorder;

@@ -8,7 +8,10 @@
 //! `Rotation` begins, opens and ends the files in turn, throws old ones away, and has the lines of times written. Whoever
 //! records has the newest file's recorder: `Archive`, which records an input, or a station.
 //!
-//! Start at `specs/Files.antt`, which says what is known of a folder's files, and at `specs/Opening.antt`.
+//! `archives_record_their_input` says what is recorded over the files, one after the other, whichever calls are made.
+//!
+//! Start at `specs/Files.antt`, which says what is known of a folder's files, at `specs/Opening.antt`, and at
+//! `specs/Changing.antt`, which says how the newest file ends and the next one begins.
 #![tactic(auto)]
 
 mod archive;
@@ -17,6 +20,7 @@ mod damage;
 mod ending;
 mod files;
 mod filing;
+mod laws;
 mod naming;
 mod newest;
 mod opening;
@@ -30,6 +34,7 @@ pub use beside::Beside;
 pub use damage::Damage;
 pub use ending::{Unended, end_open, end_streams};
 pub use files::{BeginFault, Files};
+pub use laws::{archives_record_their_input, records_lead_on};
 pub use naming::{ArchiveNames, name_of, text_of};
 pub use opening::open_sound;
 pub use rotation::{Rotation, Rules};

@@ -1,5 +1,6 @@
 //! The newest file, which is recorded into.
 ghost use Rattle.std.specs.Prelude.{◌≡◌, None};
+ghost use Rattle.archive_record.specs.Changing.{takes_no_link};
 
 use archive_folder::FileName;
 use archive_times::Join;
@@ -45,7 +46,9 @@ impl<D: Disk> Newest<D> {
     }
 
     /// Whether a link more would be refused, and none is open.
-    pub(crate) fn is_full(&self) -> bool {
+    pub(crate) fn is_full(&self) -> bool
+        ensures { result ≡ takes_no_link self.now.recorder.chain }
+    {
         self.recorder.links() >= MOST_LINKS && !is_open(self.recorder.streams())
     }
 
@@ -60,14 +63,13 @@ impl<D: Disk> Newest<D> {
 }
 
 impl<D: Disk> Runner for Newest<D> {
-    ghost use Rattle.std.specs.Prelude.{◌≡◌};
-    ghost use Rattle.file_recorder.specs.Running.{Progress, Answers, waiting_in, end_in};
+    ghost use Rattle.archive_record.specs.Writing.{AnswersIn, IsWriting, Writing, waiting_in, end_in};
 
-    ghost State = { Progress D };
+    ghost State = { Writing D };
 
-    ghost is_in = { λ before newest. before.now ≡ newest.recorder };
+    ghost is_in = { IsWriting };
 
-    ghost answers = { Answers D.Disk };
+    ghost answers = { AnswersIn D.Disk };
 
     ghost held_in = { waiting_in };
 

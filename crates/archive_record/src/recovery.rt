@@ -1,4 +1,9 @@
 //! The recording goes on after the disk has failed.
+ghost use Rattle.std.specs.Prelude.{◌≡◌, ◌⊎◌, IfOk, List, None, Some, Ok, false, ℕ};
+ghost use Rattle.import_record.specs.Running.{nothing};
+ghost use Rattle.archive_record.specs.Changing.{IsReopened, IsSetAside};
+ghost use Rattle.archive_record.specs.Recovering.{IsGivenBack};
+ghost use Rattle.archive_record.specs.declared.newest.Newest.{Newest as NewestOf};
 
 use crate::archive::{Archive, ArchiveFault, serials_of};
 use crate::beside::Beside;
@@ -33,7 +38,16 @@ impl<D: Disk + Drop, F: Folder<File = D> + Drop> Archive<D, F> {
         import: &mut ImportRun,
         now: u64,
         beside: &mut B,
-    ) -> Result<Answered, ArchiveFault> {
+    ) -> Result<Answered, ArchiveFault>
+        // The input goes on in the file, which was opened again, or in the next one.
+        ensures recovers { (newest : NewestOf D) → self.old.newest ≡ Some newest → IfOk result (λ answered.
+            IsReopened D.Disk newest.name import.old import.new answered self.new.newest
+            ⊎ IsSetAside D.Disk self.old.rotation.rules.keeping.bytes newest.recorder.chain.serials
+            import.old import.new answered self.new.newest) }
+        ensures none { self.old.newest ≡ None → (result ≡ Ok nothing) × (self.new ≡ self.old)
+            × (import.new ≡ import.old) × (beside.new ≡ beside.old) }
+        ensures rules { self.new.rotation.rules ≡ self.old.rotation.rules }
+    {
         let committed = self.end();
         let Some(failed) = self.give_back_newest() else {
             return Ok(Answered::nothing());
@@ -49,7 +63,12 @@ impl<D: Disk + Drop, F: Folder<File = D> + Drop> Archive<D, F> {
     }
 
     /// The newest file is given back, if there is one.
-    fn give_back_newest(&mut self) -> Option<Failed> {
+    fn give_back_newest(&mut self) -> Option<Failed>
+        ensures given { IsGivenBack self.old.newest result }
+        ensures taken { self.new.newest ≡ None }
+        ensures none { self.old.newest ≡ None → self.new ≡ self.old }
+        ensures rules { self.new.rotation.rules ≡ self.old.rotation.rules }
+    {
         let Newest {
             name,
             recorder,
@@ -66,7 +85,9 @@ impl<D: Disk + Drop, F: Folder<File = D> + Drop> Archive<D, F> {
     }
 
     /// How often the disk has failed with so many bytes committed.
-    fn count_loss(&mut self, committed: u64) -> u8 {
+    fn count_loss(&mut self, committed: u64) -> u8
+        ensures { self.new ≡ record self.old { lost_at = self.new.lost_at; losses = self.new.losses } }
+    {
         self.losses = if self.losses > 0 && self.lost_at == committed {
             self.losses.saturating_add(1)
         } else {
@@ -84,7 +105,12 @@ impl<D: Disk + Drop, F: Folder<File = D> + Drop> Archive<D, F> {
         import: &mut ImportRun,
         now: u64,
         beside: &mut B,
-    ) -> Result<Answered, ArchiveFault> {
+    ) -> Result<Answered, ArchiveFault>
+        ensures aside { (taken : List ℕ) → self.old.newest ≡ None → IfOk failed.serials (λ serials. serials.items ≡ taken)
+            → IfOk result (λ answered. IsSetAside D.Disk self.old.rotation.rules.keeping.bytes taken
+            import.old import.new answered self.new.newest) }
+        ensures rules { self.new.rotation.rules ≡ self.old.rotation.rules }
+    {
         let Failed {
             name,
             serials,
@@ -104,7 +130,12 @@ impl<D: Disk + Drop, F: Folder<File = D> + Drop> Archive<D, F> {
         import: &mut ImportRun,
         now: u64,
         beside: &mut B,
-    ) -> Result<Answered, ArchiveFault> {
+    ) -> Result<Answered, ArchiveFault>
+        ensures opened { (taken : List ℕ) → self.old.newest ≡ None → IfOk failed.serials (λ serials. serials.items ≡ taken)
+            → IfOk result (λ answered. IsReopened D.Disk failed.name import.old import.new answered self.new.newest
+            ⊎ IsSetAside D.Disk self.old.rotation.rules.keeping.bytes taken import.old import.new answered self.new.newest) }
+        ensures rules { self.new.rotation.rules ≡ self.old.rotation.rules }
+    {
         match self.rotation.open_again(beside) {
             Ok(recorder) => {
                 let mut newest = Newest::on(failed.name, recorder);
@@ -125,7 +156,11 @@ impl<D: Disk + Drop, F: Folder<File = D> + Drop> Archive<D, F> {
         &mut self,
         import: &mut ImportRun,
         newest: Newest<D>,
-    ) -> Result<Answered, ArchiveFault> {
+    ) -> Result<Answered, ArchiveFault>
+        ensures goes_on { (newest.recorder.held ≡ 0) × (newest.recorder.file.failed ≡ false)
+            → IfOk result (λ answered. IsReopened D.Disk newest.name import.old import.new answered self.new.newest) }
+        ensures rotation { self.new.rotation ≡ self.old.rotation }
+    {
         let serials = newest.recorder.serials().as_slice();
         let commands = match import.resume(newest.recorder.streams(), serials) {
             Ok(commands) => commands,

@@ -140,6 +140,7 @@ impl<D: Disk + Drop, F: Folder<File = D> + Drop> Rotation<F> {
         ensures paired { length self.old.held.items ≡ length self.old.files.files
             → length self.new.held.items ≡ length self.new.files.files }
         ensures out { self.new.files.out ≡ self.old.files.out }
+        ensures rules { self.new.rules ≡ self.old.rules }
     {
         let mut gone: usize = 0;
         for _ in 0..self.held.len() {
@@ -165,6 +166,7 @@ impl<D: Disk + Drop, F: Folder<File = D> + Drop> Rotation<F> {
         ensures paired { length self.old.held.items ≡ length self.old.files.files
             → length self.new.held.items ≡ length self.new.files.files }
         ensures out { self.new.files.out ≡ self.old.files.out }
+        ensures rules { self.new.rules ≡ self.old.rules }
     {
         if self.rules.keeping.bytes.is_none() || !self.files.is_full() {
             return false;
@@ -189,6 +191,7 @@ impl<D: Disk + Drop, F: Folder<File = D> + Drop> Rotation<F> {
         ensures paired { length self.old.held.items ≡ length self.old.files.files
             → length self.new.held.items ≡ length self.new.files.files }
         ensures out { self.new.files.out ≡ self.old.files.out }
+        ensures rules { self.new.rules ≡ self.old.rules }
     {
         let Some(name) = self.files.names().get(going.at) else {
             return false;
@@ -233,6 +236,7 @@ impl<D: Disk + Drop, F: Folder<File = D> + Drop> Rotation<F> {
     fn keep(&mut self, at: usize)
         ensures files { self.new.files ≡ self.old.files }
         ensures held { length self.new.held.items ≡ length self.old.held.items }
+        ensures rules { self.new.rules ≡ self.old.rules }
     {
         if let Some(held) = self.held.get_mut(at) {
             held.is_kept = true;
@@ -243,6 +247,7 @@ impl<D: Disk + Drop, F: Folder<File = D> + Drop> Rotation<F> {
     fn forget(&mut self, at: usize)
         ensures files { self.new.files ≡ self.old.files }
         ensures held { at < length self.old.held.items → length self.new.held.items + 1 ≡ length self.old.held.items }
+        ensures rules { self.new.rules ≡ self.old.rules }
     {
         if at < self.held.len() {
             self.held.remove(at);

@@ -4,7 +4,7 @@ ghost use Rattle.disk_model.specs.Image.{settled};
 ghost use Rattle.archive_names.specs.Plan.{IsOver};
 ghost use Rattle.file_recorder.specs.Recorder.{committed, staged};
 ghost use Rattle.archive_record.specs.Files.{AllKept};
-ghost use Rattle.archive_record.specs.Filing.{HasExactly};
+ghost use Rattle.archive_record.specs.Filing.{HasExactly, IsNew};
 ghost use Rattle.archive_record.specs.Resting.{IsAtRest};
 ghost use Rattle.archive_record.specs.Rotating.{with_period};
 ghost use Rattle.archive_record.specs.Spelling.{name_of};
@@ -96,6 +96,7 @@ impl<D: Disk + Drop, F: Folder<File = D> + Drop> Rotation<F> {
     ) -> Result<Option<(FileName, Recorder<D>)>, ArchiveFault>
         // Only what rests is recorded into.
         ensures rests { IfOk result (λ newest. IfSome newest (λ (file, r). IsAtRest r)) }
+        ensures rules { self.new.rules ≡ self.old.rules }
     {
         for _ in 0..self.tries() {
             match open_newest(self.alloc, &mut self.files, self.rules.most) {
@@ -140,8 +141,10 @@ impl<D: Disk + Drop, F: Folder<File = D> + Drop> Rotation<F> {
         now: u64,
         beside: &mut B,
     ) -> Result<(FileName, Recorder<D>), ArchiveFault>
-        // Nothing waits in it.
+        // Nothing waits in it, and nothing was recorded into it, if no file goes for want of room.
         ensures works { IfOk result (λ (file, r). (r.held ≡ 0) × (r.file.failed ≡ false)) }
+        ensures unwritten { self.old.rules.keeping.bytes ≡ None → IfOk result (λ (file, r). IsNew D.Disk r) }
+        ensures rules { self.new.rules ≡ self.old.rules }
     {
         let begun = i64::try_from(now / 1000).unwrap_or(i64::MAX);
         let (name, disk) = self.make_file(begun, goes_on, beside)?;
@@ -161,6 +164,7 @@ impl<D: Disk + Drop, F: Folder<File = D> + Drop> Rotation<F> {
         beside: &mut B,
     ) -> Result<(FileName, D), ArchiveFault>
         ensures fresh { IfOk result (λ (file, disk). D.is_honest disk → D.state disk ≡ settled []) }
+        ensures rules { self.new.rules ≡ self.old.rules }
     {
         let mut goes_on = goes_on;
         for _ in 0..self.tries() {
@@ -191,6 +195,8 @@ impl<D: Disk + Drop, F: Folder<File = D> + Drop> Rotation<F> {
     ) -> Result<Recorder<D>, ArchiveFault>
         requires { D.is_honest disk → D.state disk ≡ settled [] }
         ensures works { IfOk result (λ recorder. (recorder.held ≡ 0) × (recorder.file.failed ≡ false)) }
+        ensures unwritten { self.old.rules.keeping.bytes ≡ None → IfOk result (IsNew D.Disk) }
+        ensures rules { self.new.rules ≡ self.old.rules }
     {
         if !self.files.is_out(name.number) {
             return Err(ArchiveFault::Folder);
@@ -210,6 +216,7 @@ impl<D: Disk + Drop, F: Folder<File = D> + Drop> Rotation<F> {
     /// The same, on a file that was given back since there was no room.
     fn next_recorder<B: Beside>(&mut self, beside: &mut B) -> Result<Recorder<D>, ArchiveFault>
         ensures works { IfOk result (λ recorder. (recorder.held ≡ 0) × (recorder.file.failed ≡ false)) }
+        ensures rules { self.new.rules ≡ self.old.rules }
     {
         match self.open_again(beside) {
             Ok(recorder) => Ok(recorder),
@@ -265,6 +272,7 @@ impl<D: Disk + Drop, F: Folder<File = D> + Drop> Rotation<F> {
         ensures ended { OnOk result (F.is_honest self.old.files.folder → D.is_honest recorder.file.disk
             → HasExactly D.Disk (F.file self.new.files.folder) name.number (committed D.state recorder ++ staged D.state recorder)) }
         ensures free { OnOk result (self.new.files.out ≡ None) }
+        ensures rules { self.new.rules ≡ self.old.rules }
         ensures same { OnErr result (self.new ≡ self.old) }
     {
         let end = recorder.length();
@@ -302,6 +310,7 @@ impl<D: Disk + Drop, F: Folder<File = D> + Drop> Rotation<F> {
     pub fn give_back(&mut self, name: FileName, disk: D)
         ensures free { self.old.files.out ≡ Some name.number → self.new.files.out ≡ None }
         ensures files { self.new.files.files ≡ self.old.files.files }
+        ensures rules { self.new.rules ≡ self.old.rules }
     {
         give_back(&mut self.files, name, disk);
     }
@@ -311,6 +320,7 @@ impl<D: Disk + Drop, F: Folder<File = D> + Drop> Rotation<F> {
     pub fn open_again<B: Beside>(&mut self, beside: &mut B) -> Result<Recorder<D>, Damage>
         // Nothing waits in it.
         ensures fresh { IfOk result (λ r. (r.file.failed ≡ false) × (r.held ≡ 0)) }
+        ensures rules { self.new.rules ≡ self.old.rules }
     {
         for _ in 0..self.tries() {
             match open_last(self.alloc, &mut self.files) {
@@ -331,7 +341,8 @@ impl<D: Disk + Drop, F: Folder<File = D> + Drop> Rotation<F> {
 
     /// The newest file was opened, of which this many bytes are committed: its times are gone on with.
     pub fn opened<B: Beside>(&mut self, name: FileName, committed: u64, beside: &mut B)
-        ensures { self.new.files ≡ self.old.files }
+        ensures files { self.new.files ≡ self.old.files }
+        ensures rules { self.new.rules ≡ self.old.rules }
     {
         self.last = beside.opened(name, committed);
     }
@@ -353,6 +364,7 @@ impl<D: Disk + Drop, F: Folder<File = D> + Drop> Rotation<F> {
     )
         ensures nothing { committed ≡ 0 → (self.new ≡ self.old) × (beside.new ≡ beside.old) }
         ensures files { self.new.files ≡ self.old.files }
+        ensures rest { self.new ≡ record self.old { last = self.new.last; written = self.new.written } }
     {
         if committed == 0 {
             return;

@@ -8,4 +8,5 @@ invariant-loop g l =
       left : IsLeftOf l.initial.self.files.files l.self.files.files;
       paired : length l.initial.self.held.items ≡ length l.initial.self.files.files → length l.self.held.items ≡ length l.self.files.files;
       out : l.self.files.out ≡ l.initial.self.files.out;
+      rules : l.self.rules ≡ l.initial.self.rules;
     }
