@@ -32,7 +32,7 @@ use Rattle.history.specs.World.{World, Call, Opening, Committing, Sealing, Step,
 use Rattle.history.specs.History.{StandsIn}
 use Rattle.file_recorder.specs.Recovery.{Links, Commits}
 use Rattle.file_recorder.specs.Taking.{HoldsChain}
-use Rattle.file_recorder.specs.Recorder.{RecorderState, IsRecorder, recorder_state, committed, staged, over_disk}
+use Rattle.file_recorder.specs.Recorder.{RecorderState, IsRecorder, committed, staged, over_disk}
 use Rattle.file_recorder.specs.Answer.{command_step, flush_step, refused_step}
 use Rattle.archive_laws.specs.Committing.{AreWhole, ShowsLinks, AcceptsAfter, IsInLinks, IsStepOfLinks}
 
@@ -228,7 +228,7 @@ module _ {D : Type 0} (model : DiskModel D) (first : Links) (w : World Command) 
         → OnOk r ((old.file.failed ≡ false) × IsOk (decision old.chain command))
         → IfErr r (λ refusal. refusal ≢ Disk → new ≡ old)
         → IfErr r (λ refusal. refusal ≡ Disk → (new.file.failed ≡ true) × (new.file.end ≡ old.file.end)
-        × (new ≡ recorder_state new.file old.chain old.tail old.kept 0 old.most))
+        × (new ≡ record old { file = new.file; held = 0 }))
         → OnOk r (new.file.failed ≡ false)
         → OnOk r (model.is_honest old.file.disk → committed model.state new ++ staged model.state new ≡ (committed model.state old ++ staged model.state old) ++ own)
         → IfOk r (λ outcome. (count : ℕ) → outcome ≡ WasHeld count → committed model.state new ≡ committed model.state old)
@@ -265,7 +265,7 @@ module _ {D : Type 0} (model : DiskModel D) (first : Links) (w : World Command) 
     pub flush_comes : (r : Result KeptOf Refusal)
         → IfErr r (λ refusal. ((refusal ≡ Failed) × (old.file.failed ≡ true)) ⊎ (refusal ≡ Disk))
         → IfErr r (λ refusal. refusal ≡ Disk → (new.file.failed ≡ true) × (new.file.end ≡ old.file.end)
-        × (new ≡ recorder_state new.file old.chain old.tail old.kept 0 old.most))
+        × (new ≡ record old { file = new.file; held = 0 }))
         → OnOk r ((old.file.failed ≡ false) × (new.file.failed ≡ false))
         → OnOk r (model.is_honest old.file.disk → committed model.state new ≡ committed model.state old ++ staged model.state old)
         → OnOk r (staged model.state new ≡ [])

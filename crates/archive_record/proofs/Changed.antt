@@ -6,7 +6,7 @@ use Rattle.archive_folder.specs.Names.{Place}
 use Rattle.archive_folder.specs.declared.names.FileName.{FileName}
 use Rattle.feed_replies.specs.declared.reply.Reply.{Reply}
 use Rattle.file_recorder.specs.Ending.{AllEnded, EndRefused}
-use Rattle.file_recorder.specs.Recorder.{RecorderState, committed, recorder_state, staged}
+use Rattle.file_recorder.specs.Recorder.{RecorderState, committed, staged}
 use Rattle.file_recorder.specs.Running.{Answers, Progress, progress, streams_in}
 use Rattle.history.specs.World.{World}
 use Rattle.link_chain.specs.ChainState.{is_open}
@@ -28,14 +28,14 @@ module _ {D : Type 0} (model : DiskModel D) where
   EndsTo before recorder goes_on = (last : Progress D) × (last.now ≡ recorder) × EndsOpen model (holding_all before) last goes_on
 
   held_all : (before : Progress D) (old held : RecorderState D) → before.now ≡ old
-      → held ≡ recorder_state old.file old.chain old.tail old.kept old.held (2 ^ 32 - 1) → progress before.first before.world held ≡ holding_all before
+      → held ≡ record old { most = 2 ^ 32 - 1 } → progress before.first before.world held ≡ holding_all before
   held_all before old held is set =
       ap (λ (r : RecorderState D). progress before.first before.world r) set
-      ∙ ap (λ (r : RecorderState D). progress before.first before.world (recorder_state r.file r.chain r.tail r.kept r.held (2 ^ 32 - 1))) (sym is)
+      ∙ ap (λ (r : RecorderState D). progress before.first before.world (record r { most = 2 ^ 32 - 1 })) (sym is)
 
   -- all that was open was ended
   pub ends_all : (before : Progress D) (old held new : RecorderState D) (was_open : Bool) → before.now ≡ old
-      → held ≡ recorder_state old.file old.chain old.tail old.kept old.held (2 ^ 32 - 1) → was_open ≡ is_open old.chain
+      → held ≡ record old { most = 2 ^ 32 - 1 } → was_open ≡ is_open old.chain
       → ((first : Recording) (w : World Command) → (after : Progress D) × (replies : List Reply) × (after.now ≡ new)
       × AllEnded streams_in (Answers model) (progress first w held) after replies)
       → EndsTo before new was_open
@@ -52,7 +52,7 @@ module _ {D : Type 0} (model : DiskModel D) where
 
   -- the end of one was refused
   pub ends_some : (before : Progress D) (old held new : RecorderState D) (why : Unended) → before.now ≡ old
-      → held ≡ recorder_state old.file old.chain old.tail old.kept old.held (2 ^ 32 - 1) → (why ≡ Failed → ⊥)
+      → held ≡ record old { most = 2 ^ 32 - 1 } → (why ≡ Failed → ⊥)
       → ((first : Recording) (w : World Command) (refusal : Refusal) → why ≡ Refused refusal → (after : Progress D) × (replies : List Reply) × (after.now ≡ new)
       × EndRefused streams_in (Answers model) (progress first w held) after replies refusal)
       → EndsTo before new false

@@ -7,7 +7,7 @@ use Rattle.archive_names.specs.Plan.{IsOver}
 use Rattle.archive_names.specs.declared.plan.Limits.{Limits}
 use Rattle.feed_replies.specs.declared.reply.Reply.{Reply}
 use Rattle.file_recorder.specs.Ending.{AllEnded, EndRefused}
-use Rattle.file_recorder.specs.Recorder.{RecorderState, committed, recorder_state, staged}
+use Rattle.file_recorder.specs.Recorder.{RecorderState, committed, staged}
 use Rattle.file_recorder.specs.Running.{Answers, Progress, progress, streams_in}
 use Rattle.history.specs.World.{World}
 use Rattle.import_record.specs.Resuming.{Resumes}
@@ -43,8 +43,7 @@ NextIsDue limits now (Some newest) =
 -- every command waits from then on
 abbrev pub holding_all : {D : Type 0} → Progress D → Progress D
 holding_all before =
-    progress before.first before.world
-    (recorder_state before.now.file before.now.chain before.now.tail before.now.kept before.now.held (2 ^ 32 - 1))
+    progress before.first before.world (record before.now { most = 2 ^ 32 - 1 })
 
 module _ {D : Type 0} (model : DiskModel D) where
   -- The streams that were open were ended in turn; the next file goes on with their link, if there was one. Or the end of

@@ -16,7 +16,7 @@ use Rattle.ogg_command.specs.declared.command.Command.{Command}
 use Rattle.ogg_command.specs.declared.refusal.Refusal.{Refusal}
 use Rattle.file_recorder.specs.Recovery.{Links}
 use Rattle.file_recorder.specs.Taking.{HoldsChain, IsWholeChain}
-use Rattle.file_recorder.specs.Recorder.{RecorderState, IsRecorder, recorder_state, committed, staged}
+use Rattle.file_recorder.specs.Recorder.{RecorderState, IsRecorder, committed, staged}
 use Rattle.file_recorder.proofs.Growing.{AddsPackets, AddsSome, chain_grows, command_long}
 use Rattle.file_recorder.proofs.Opened.{none_staged}
 
@@ -69,7 +69,7 @@ module _ {D : Type 0} (model : DiskModel D) (old : RecorderState D) (file : Gate
 
   -- it waits
   pub is_waiting : old.held + 1 < old.most → file.whole ≡ true → (model.is_honest old.file.disk → G.committed model.state file ≡ committed model.state old)
-      → (model.is_honest old.file.disk → G.staged_bytes model.state file ≡ staged model.state old ++ command_bytes old.chain command) → IsRecorder model (recorder_state file chain old.tail old.kept (old.held + 1) old.most)
+      → (model.is_honest old.file.disk → G.staged_bytes model.state file ≡ staged model.state old ++ command_bytes old.chain command) → IsRecorder model (record old { file = file; chain = chain; held = old.held + 1 })
   is_waiting few whole front more = record {
     few = few;
     count = omega (arith, longer, size_some, was.count);
@@ -85,7 +85,7 @@ module _ {D : Type 0} (model : DiskModel D) (old : RecorderState D) (file : Gate
 
   -- it is kept
   pub is_kept : file.staged ≡ 0 → (model.is_honest old.file.disk → G.committed model.state file ≡ committed model.state old ++ (staged model.state old ++ command_bytes old.chain command))
-      → 0 < old.most → IsRecorder model (recorder_state file chain old.tail (old.kept + (old.held + 1)) 0 old.most)
+      → 0 < old.most → IsRecorder model (record old { file = file; chain = chain; kept = old.kept + (old.held + 1); held = 0 })
   is_kept none grown few = record {
     few = few;
     count = omega (arith, longer, size_some, was.count);

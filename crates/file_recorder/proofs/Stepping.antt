@@ -117,7 +117,7 @@ module _ {D : Type 0} (model : DiskModel D) (first : Recording) (w : World Comma
 
   pub faulted_flush : IsIn model first w old → w.is_open ≡ true → model.is_honest old.file.disk → (file : GateState D) → model.is_honest file.disk → file.failed ≡ true → G.committed model.state file ≡ committed model.state old
       → LeavesOnly model old.file.disk file.disk (CommitsToEither (committed model.state old) (staged model.state old))
-      → Steps (Faulted Flushing) file.disk × Stands (recorder_state file old.chain old.tail old.kept 0 old.most) (begun w Flushing)
+      → Steps (Faulted Flushing) file.disk × Stands (record old { file = file; held = 0 }) (begun w Flushing)
   faulted_flush is_in opened honest file now bad same leaves = (
     (
       opened,
@@ -132,7 +132,7 @@ module _ {D : Type 0} (model : DiskModel D) (first : Recording) (w : World Comma
       (chain : HoldsChain (committed model.state old ++ staged model.state old) old.chain) (is : IsCommand command) (kept : decision old.chain command ≡ Ok size) (file : GateState D) (now : model.is_honest file.disk) where
     pub held_step : (chain_now : ChainState) → file.failed ≡ false → G.committed model.state file ≡ committed model.state old → G.staged_bytes model.state file ≡ staged model.state old ++ command_bytes old.chain command
         → LeavesOnly model old.file.disk file.disk (CommitsTo (committed model.state old))
-        → Steps (Held command) file.disk × Stands (recorder_state file chain_now old.tail old.kept (old.held + 1) old.most) (happens w (Held command))
+        → Steps (Held command) file.disk × Stands (record old { file = file; chain = chain_now; held = old.held + 1 }) (happens w (Held command))
     held_step chain_now still same more leaves =
         let is_open_now = is_open is_in good in (
           (
@@ -152,7 +152,7 @@ module _ {D : Type 0} (model : DiskModel D) (first : Recording) (w : World Comma
 
     -- a fault while the group's pages were staged
     pub faulted_staging : (chain_now : ChainState) → file.failed ≡ true → G.committed model.state file ≡ committed model.state old → LeavesOnly model old.file.disk file.disk (CommitsTo (committed model.state old))
-        → Steps (Faulted (call_of old.most w command)) file.disk × Stands (recorder_state file chain_now old.tail old.kept 0 old.most) (happens w (Faulted (call_of old.most w command)))
+        → Steps (Faulted (call_of old.most w command)) file.disk × Stands (record old { file = file; chain = chain_now; held = 0 }) (happens w (Faulted (call_of old.most w command)))
     faulted_staging chain_now bad same leaves =
         (by_call (nat_lt (length w.held + 1) old.most), is_in_closed (group_in_doubt w (call_of old.most w command)) file chain_now old.kept 0 old.most is_in honest bad same)
       where
@@ -181,7 +181,7 @@ module _ {D : Type 0} (model : DiskModel D) (first : Recording) (w : World Comma
 
       pub kept_step : (chain_now : ChainState) → file.failed ≡ false → file.staged ≡ 0 → G.committed model.state file ≡ G.committed model.state mid ++ G.staged_bytes model.state mid
           → EachImage (model.state file.disk) (CommitsTo (G.committed model.state mid ++ G.staged_bytes model.state mid))
-          → Steps (Kept command) file.disk × Stands (recorder_state file chain_now old.tail (old.kept + (old.held + 1)) 0 old.most) (happens w (Kept command))
+          → Steps (Kept command) file.disk × Stands (record old { file = file; chain = chain_now; kept = old.kept + (old.held + 1); held = 0 }) (happens w (Kept command))
       kept_step chain_now still none grown only =
           let holds = with_command law command size is_in good honest chain is kept in
           let after : fold add (now_in add first w) (w.held ++ command ∷ []) ≡ now_in add first (happens w (Kept command)) = sym (fold-append add first w.acknowledged (w.held ++ command ∷ [])) in
@@ -208,7 +208,7 @@ module _ {D : Type 0} (model : DiskModel D) (first : Recording) (w : World Comma
 
       -- a fault while it was committed
       pub faulted_commit : (chain_now : ChainState) → nat_lt (length w.held + 1) old.most ≡ false → file.failed ≡ true → file.end ≡ mid.end → take mid.end (model.state file.disk).contents ≡ G.committed model.state mid
-          → Steps (Faulted (call_of old.most w command)) file.disk × Stands (recorder_state file chain_now old.tail old.kept 0 old.most) (happens w (Faulted (call_of old.most w command)))
+          → Steps (Faulted (call_of old.most w command)) file.disk × Stands (record old { file = file; chain = chain_now; held = 0 }) (happens w (Faulted (call_of old.most w command)))
       faulted_commit chain_now whole bad end same = (
         subst (λ (waits : Bool). Steps (Faulted (if waits then Staging command else Committing command)) file.disk) (sym whole) step,
         is_in_closed (group_in_doubt w (call_of old.most w command)) file chain_now old.kept 0 old.most is_in honest bad (same_front mid.end file.end _ _ end same ∙ front),

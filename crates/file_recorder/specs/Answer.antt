@@ -7,7 +7,7 @@ use Rattle.ogg_command.specs.declared.refusal.Refusal.TheVariants.{Disk}
 use Rattle.history.specs.World.{World, Call, Staging, Committing, Flushing, Step, Held, Kept, Flushed, Refused, Faulted}
 use Rattle.feed_replies.specs.declared.outcome.Outcome.{Outcome}
 use Rattle.feed_replies.specs.declared.outcome.Outcome.TheVariants.{Held as WasHeld, Kept as WasKept}
-use Rattle.file_recorder.specs.Recorder.{RecorderState, recorder_state}
+use Rattle.file_recorder.specs.Recorder.{RecorderState}
 
 -- what the recorder says of the commands up to the last one that it kept
 abbrev pub kept_by : {D : Type 0} → RecorderState D → KeptOf
@@ -17,10 +17,10 @@ kept_by recorder = record { count = recorder.kept; end = recorder.file.end }
 abbrev pub Tells : {D : Type 0} → RecorderState D → Outcome → RecorderState D → Type 0
 Tells old (WasHeld count) new =
     (old.held + 1 < old.most) × (count ≡ old.kept + (old.held + 1)) × (new.file.end ≡ old.file.end)
-    × (new ≡ recorder_state new.file new.chain old.tail old.kept (old.held + 1) old.most)
+    × (new ≡ record old { file = new.file; chain = new.chain; held = old.held + 1 })
 Tells old (WasKept kept) new =
     (old.most ≤ old.held + 1) × (kept ≡ kept_by new)
-    × (new ≡ recorder_state new.file new.chain old.tail (old.kept + (old.held + 1)) 0 old.most)
+    × (new ≡ record old { file = new.file; chain = new.chain; kept = old.kept + (old.held + 1); held = 0 })
 
 -- the last command of a group commits it
 abbrev pub call_of : ℕ → World Command → Command → Call Command

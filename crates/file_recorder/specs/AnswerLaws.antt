@@ -12,7 +12,7 @@ use Rattle.ogg_command.specs.declared.refusal.Refusal.TheVariants.{Failed, Memor
 use Rattle.feed_replies.specs.declared.outcome.Outcome.{Outcome}
 use Rattle.feed_replies.specs.declared.outcome.Outcome.TheVariants.{Held as WasHeld, Kept as WasKept}
 use Rattle.file_recorder.specs.Recovery.{Links}
-use Rattle.file_recorder.specs.Recorder.{RecorderState, recorder_state}
+use Rattle.file_recorder.specs.Recorder.{RecorderState}
 use Rattle.file_recorder.specs.Answer.{Tells, kept_by}
 use Rattle.file_recorder.specs.Small.{begins_link}
 use Rattle.file_recorder.specs.Running.{AnsweredBy, FlushedBy, FlushBecomes, Becomes, Fails, reply_of, reply_of_flush}
@@ -63,7 +63,7 @@ pub flushed_by : {D : Type 0} (failed : Bool) (r : Result KeptOf Refusal) (old n
     → IfErr r (λ refusal. ((refusal ≡ Failed) × (failed ≡ true)) ⊎ (refusal ≡ Disk))
     → (failed ≡ false → old.held ≡ 0 → (r ≡ Ok (kept_by old)) × (new ≡ old))
     → IfErr r (λ refusal. refusal ≡ Disk → Fails old new)
-    → IfOk r (λ kept. (kept ≡ kept_by new) × (new ≡ recorder_state new.file old.chain old.tail (old.kept + old.held) 0 old.most))
+    → IfOk r (λ kept. (kept ≡ kept_by new) × (new ≡ record old { file = new.file; kept = old.kept + old.held; held = 0 }))
     → OnOk r ((old.file.failed ≡ false) × (new.file.failed ≡ false))
     → FlushedBy failed old (reply_of_flush r) new
 flushed_by true r old new by_failed refusals nothing faulted tells good = let (is, same) = by_failed refl in (ap reply_of_flush is, same)

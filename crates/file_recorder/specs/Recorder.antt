@@ -33,9 +33,7 @@ recorder_state file chain tail kept held most =
 
 -- the same recorder over a disk that was read
 abbrev pub over_disk : {D : Type 0} → D → RecorderState D → RecorderState D
-over_disk disk recorder =
-    recorder_state (gate_state disk recorder.file.end recorder.file.staged recorder.file.whole recorder.file.failed)
-    recorder.chain recorder.tail recorder.kept recorder.held recorder.most
+over_disk disk recorder = record recorder { file = record recorder.file { disk = disk } }
 
 -- the committed bytes, and those of the commands that wait
 abbrev pub committed : {D : Type 0} → (D → DiskState) → RecorderState D → List ℕ

@@ -21,7 +21,7 @@ use Rattle.history.specs.History.{AreSteps}
 use Rattle.feed_replies.specs.declared.outcome.Outcome.{Outcome}
 use Rattle.feed_replies.specs.declared.outcome.Outcome.TheVariants.{Held as WasHeld, Kept as WasKept}
 use Rattle.file_recorder.specs.Recovery.{Links, Shows, Accepts}
-use Rattle.file_recorder.specs.Recorder.{RecorderState, IsIn, recorder_state, committed, staged}
+use Rattle.file_recorder.specs.Recorder.{RecorderState, IsIn, committed, staged}
 use Rattle.file_recorder.specs.Answer.{Tells, kept_by, call_of, refused_step}
 use Rattle.file_recorder.specs.Small.{begins_link}
 
@@ -63,7 +63,7 @@ reply_of_flush (Err refusal) = RefusedReply refusal
 abbrev pub Fails : {D : Type 0} → RecorderState D → RecorderState D → Type 0
 Fails old new =
     (new.file.failed ≡ true) × (new.file.end ≡ old.file.end)
-    × (new ≡ recorder_state new.file old.chain old.tail old.kept 0 old.most)
+    × (new ≡ record old { file = new.file; held = 0 })
 
 -- the command was accepted: the links grow by its own
 abbrev pub Takes : {D : Type 0} → RecorderState D → Command → RecorderState D → Type 0
@@ -90,7 +90,7 @@ AnsweredBy false (Ok size) old command reply new = Becomes old command reply new
 abbrev pub FlushBecomes : {D : Type 0} → RecorderState D → Reply → RecorderState D → Type 0
 FlushBecomes old (KeptReply kept) new =
     (kept ≡ kept_by new) × (new.file.failed ≡ false) × (old.held ≡ 0 → new ≡ old)
-    × (new ≡ recorder_state new.file old.chain old.tail (old.kept + old.held) 0 old.most)
+    × (new ≡ record old { file = new.file; kept = old.kept + old.held; held = 0 })
 FlushBecomes old (RefusedReply Disk) new = (0 < old.held) × Fails old new
 FlushBecomes old reply new = ⊥
 

@@ -12,7 +12,7 @@ ghost use Rattle.ogg_command.specs.declared.refusal.Refusal.{Refusal as RefusalO
 ghost use Rattle.feed_replies.specs.declared.reply.Kept.{Kept as KeptOf};
 ghost use Rattle.history.specs.World.{World, happens};
 ghost use Rattle.file_recorder.specs.Recovery.{Links};
-ghost use Rattle.file_recorder.specs.Recorder.{IsIn, recorder_state, committed, staged, IsRecorderStep};
+ghost use Rattle.file_recorder.specs.Recorder.{IsIn, committed, staged, IsRecorderStep};
 ghost use Rattle.file_recorder.specs.Small.{begins_link};
 ghost use Rattle.file_recorder.specs.Answer.{Tells, kept_by, call_of, command_step, flush_step};
 
@@ -26,14 +26,14 @@ use feed_replies::{Kept, Outcome};
 use ogg_command::command_is_in_range;
 
 impl<D: Disk> Recorder<D> {
-    ghost use Rattle.file_recorder.specs.Recorder.{RecorderState, recorder_state, committed, staged};
+    ghost use Rattle.file_recorder.specs.Recorder.{RecorderState, committed, staged};
 
     /// From now on `most` commands share a commit, 1 to 1,024. Nothing waits.
     pub fn group(&mut self, most: u32)
         requires some { 1 ≤ most }
         requires few { most ≤ 1024 }
         requires none { self.old.held ≡ 0 }
-        ensures set { self.new ≡ recorder_state self.old.file self.old.chain self.old.tail self.old.kept self.old.held most }
+        ensures set { self.new ≡ record self.old { most = most } }
         ensures stands { (first : Recording) (w : World CommandOf) → IsIn D.Disk first w self.old
             → IsIn D.Disk first w self.new }
     {
@@ -42,7 +42,7 @@ impl<D: Disk> Recorder<D> {
 
     /// From now on every command waits until it is flushed, or sealed with the file. What waits still does.
     pub fn hold_all(&mut self)
-        ensures set { self.new ≡ recorder_state self.old.file self.old.chain self.old.tail self.old.kept self.old.held (2 ^ 32 - 1) }
+        ensures set { self.new ≡ record self.old { most = 2 ^ 32 - 1 } }
         ensures stands { (first : Recording) (w : World CommandOf) → IsIn D.Disk first w self.old
             → IsIn D.Disk first w self.new }
     {
@@ -68,7 +68,7 @@ impl<D: Disk> Recorder<D> {
         ensures same { IfErr result (λ refusal. refusal ≢ Refusal.Disk → self.new ≡ self.old) }
         ensures faulted { IfErr result (λ refusal. refusal ≡ Refusal.Disk → (self.new.file.failed ≡ true)
             × (self.new.file.end ≡ self.old.file.end)
-            × (self.new ≡ recorder_state self.new.file self.old.chain self.old.tail self.old.kept 0 self.old.most)) }
+            × (self.new ≡ record self.old { file = self.new.file; held = 0 })) }
         ensures tells { IfOk result (λ outcome. Tells self.old outcome self.new) }
         ensures good { OnOk result (self.new.file.failed ≡ false) }
         ensures links { OnOk result ((links : Links) → self.old.chain ≡ chain_state_of links
@@ -159,9 +159,9 @@ impl<D: Disk> Recorder<D> {
             → (result ≡ Ok (kept_by self.old)) × (self.new ≡ self.old) }
         ensures faulted { IfErr result (λ refusal. refusal ≡ Refusal.Disk → (self.new.file.failed ≡ true)
             × (self.new.file.end ≡ self.old.file.end)
-            × (self.new ≡ recorder_state self.new.file self.old.chain self.old.tail self.old.kept 0 self.old.most)) }
+            × (self.new ≡ record self.old { file = self.new.file; held = 0 })) }
         ensures tells { IfOk result (λ kept. (kept ≡ kept_by self.new)
-            × (self.new ≡ recorder_state self.new.file self.old.chain self.old.tail (self.old.kept + self.old.held) 0 self.old.most)) }
+            × (self.new ≡ record self.old { file = self.new.file; kept = self.old.kept + self.old.held; held = 0 })) }
         ensures good { OnOk result ((self.old.file.failed ≡ false) × (self.new.file.failed ≡ false)) }
 
         // What waited is committed.

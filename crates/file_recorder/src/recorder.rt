@@ -17,7 +17,7 @@ ghost use Rattle.history.specs.World.{World, Opening, Opened, Flushing, Flushed,
 ghost use Rattle.history.specs.History.{StandsIn};
 ghost use Rattle.file_recorder.specs.Recovery.{Commits, Shows};
 ghost use Rattle.file_recorder.specs.Taking.{HoldsChain, IsBrokenAt, IsUnfinished};
-ghost use Rattle.file_recorder.specs.Recorder.{RecorderState, IsRecorder, IsIn, recorder_state, over_disk, committed, staged, IsRecorderStep};
+ghost use Rattle.file_recorder.specs.Recorder.{RecorderState, IsRecorder, IsIn, over_disk, committed, staged, IsRecorderStep};
 
 use crate::opening::{FoundChain, find_chain, find_empty, rooms};
 use crate::staging::SmallPage;
@@ -58,7 +58,7 @@ impl<D: Disk> Model for Recorder<D> {
 }
 
 impl<D: Disk> Recorder<D> {
-    ghost use Rattle.file_recorder.specs.Recorder.{RecorderState, recorder_state, committed, to_read};
+    ghost use Rattle.file_recorder.specs.Recorder.{RecorderState, committed, to_read};
 
     /// Opens a file that a stop may have left. It syncs, finds the committed bytes and takes their pages into a
     /// chain, all in one pass and in the memory of one page and of the chain. If no closed byte follows the committed
@@ -66,7 +66,7 @@ impl<D: Disk> Recorder<D> {
     /// in this order, and `Memory` and `Disk`; after each but `Disk` the contents are as they were.
     pub fn open(alloc: Global, disk: D) -> Result<Recorder<D>, (OpenFault, D)>
         ensures fresh { IfOk result (λ r. (r.file.failed ≡ false) × (r.file.staged ≡ 0)
-            × (r ≡ recorder_state r.file r.chain r.tail 0 0 1)) }
+            × (r ≡ record r { kept = 0; held = 0; most = 1 })) }
         // The committed bytes are links that hold a recording.
         ensures ends { IfOk result (λ r. D.is_honest disk → EndsAt (D.state disk).contents r.file.end
             × (r.file.end + r.tail ≡ length (D.state disk).contents)
@@ -158,7 +158,7 @@ impl<D: Disk> Recorder<D> {
     pub fn open_empty(alloc: Global, disk: D) -> Result<Recorder<D>, (OpenFault, D)>
         requires { D.is_honest disk → D.state disk ≡ settled [] }
         ensures fresh { IfOk result (λ r. (r.file.failed ≡ false) × (r.file.end ≡ 0) × (r.file.staged ≡ 0)
-            × (r ≡ recorder_state r.file r.chain 0 0 0 1)) }
+            × (r ≡ record r { tail = 0; kept = 0; held = 0; most = 1 })) }
         ensures faults { IfErr result (λ e. (e.0 ≡ OpenFault.Disk) ⊎ ((e.0 ≡ OpenFault.Memory) × (e.1 ≡ disk))) }
 
         // Every image since the call began commits to nothing.
@@ -330,7 +330,7 @@ impl<D: Disk> Recorder<D> {
         ensures sealed { IfOk result (λ disk. D.is_honest self.file.disk
             → IsSettled (D.state disk) × ((D.state disk).contents ≡ committed D.state self ++ staged D.state self)) }
         ensures faulted { IfErr result (λ e. (e.1.file.failed ≡ true) × (e.1.file.end ≡ self.file.end)
-            × (e.1 ≡ recorder_state e.1.file self.chain self.tail self.kept 0 self.most)) }
+            × (e.1 ≡ record self { file = e.1.file; held = 0 })) }
         ensures front { IfErr result (λ e. D.is_honest self.file.disk → committed D.state e.1 ≡ committed D.state self) }
 
         // Every image since the call began commits to what was committed, without the group or with all of it.

@@ -13,7 +13,7 @@ use Rattle.history.specs.Showing.{IsAsBefore}
 use Rattle.history.specs.World.{World, Opened, happens}
 use Rattle.history.specs.History.{StandsIn}
 use Rattle.ogg_command.specs.declared.command.Command.{Command}
-use Rattle.file_recorder.specs.Recorder.{RecorderState, IsIn, recorder_state, IsRecorderStep}
+use Rattle.file_recorder.specs.Recorder.{RecorderState, IsIn, IsRecorderStep}
 use Rattle.file_recorder.specs.Recovery.{Commits, Shows}
 use Rattle.serve_hub.specs.Images.{Reopens}
 
@@ -25,7 +25,7 @@ no_fault e = cc
 
 module _ {D : Type 0} (model : DiskModel D) where
   -- the recorder that was opened, once its group is set
-  pub reopened : (disk : D) (r new : RecorderState D) (most : ℕ) → new ≡ recorder_state r.file r.chain r.tail r.kept r.held most
+  pub reopened : (disk : D) (r new : RecorderState D) (most : ℕ) → new ≡ record r { most = most }
       → (model.is_honest disk → LeavesOnly model disk r.file.disk (IsAsBefore Commits (model.state disk)))
       → ((first : Recording) (w : World Command) → StandsIn Shows add first w (model.state disk) → w.is_open ≡ false → model.is_honest disk → (found : Bool)
       × IsRecorderStep model first w (Opened found) disk r.file.disk × IsIn model first (happens w (Opened found)) r)

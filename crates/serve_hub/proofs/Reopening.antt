@@ -9,7 +9,7 @@ use Rattle.gate_file.specs.CommitLaws.{one_commit, whole_of}
 use Rattle.gate_file.specs.Gate.{EachImage, EndsAt}
 use Rattle.gate_file.specs.GateFile.{GateState}
 use Rattle.history.specs.Showing.{IsAsBefore}
-use Rattle.file_recorder.specs.Recorder.{RecorderState, IsRecorder, recorder_state, committed}
+use Rattle.file_recorder.specs.Recorder.{RecorderState, IsRecorder, committed}
 use Rattle.file_recorder.specs.Recovery.{Commits as CommitsImage}
 use Rattle.serve_machine.specs.Hub.{HubState, MayBeFound, without_file, reopen_step}
 use Rattle.serve_hub.specs.Parts.{lost_file}
@@ -51,9 +51,9 @@ module _ {D : Type 0} (model : DiskModel D) (disk : D) (end : ℕ) (m : HubState
       )
 
   -- the recorder that was opened, once its group is set
-  pub opened : (r new : RecorderState D) (most : ℕ) → new ≡ recorder_state r.file r.chain r.tail r.kept r.held most → HasImages (model.state disk) (model.moment disk) (model.images_since disk)
+  pub opened : (r new : RecorderState D) (most : ℕ) → new ≡ record r { most = most } → HasImages (model.state disk) (model.moment disk) (model.images_since disk)
       → IsRecorder model new → model.is_honest r.file.disk → EndsAt (model.state disk).contents r.file.end → committed model.state r ≡ take r.file.end (model.state disk).contents
-      → r.file.failed ≡ false → r ≡ recorder_state r.file r.chain r.tail 0 0 1 → m.most_after_reopening ≡ most
+      → r.file.failed ≡ false → r ≡ record r { kept = 0; held = 0; most = 1 } → m.most_after_reopening ≡ most
       → (after : HubState) × ShowsFile model new after × reopen_step m (Some after.committed) after × KeepsSessions m after
   opened r new most set has now honest ends is good fresh most_is =
       let file_is : new.file ≡ r.file = ap (λ (x : RecorderState D). x.file) set in

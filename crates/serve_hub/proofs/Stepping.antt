@@ -19,7 +19,7 @@ use Rattle.ogg_command.specs.declared.refusal.Refusal.{Refusal}
 use Rattle.ogg_command.specs.declared.refusal.Refusal.TheVariants.{Failed, Memory, Disk, LinkOpen, NoLink, Empty, TooMany, SerialTaken, NoHeader, HeadTooLong, PacketTooLong, BadType, BadRate, UnknownSerial, StreamEnded, PositionRange, PositionBack, BatchTooLong, SequenceEnd, LinksFull, FileFull}
 use Rattle.feed_replies.specs.declared.reply.Kept.{Kept}
 use Rattle.file_recorder.specs.Answer.{Tells, kept_by as kept_by_recorder}
-use Rattle.file_recorder.specs.Recorder.{RecorderState, IsRecorder, recorder_state, committed, staged}
+use Rattle.file_recorder.specs.Recorder.{RecorderState, IsRecorder, committed, staged}
 use Rattle.file_recorder.specs.Taking.{HoldsChain}
 use Rattle.feed_replies.specs.declared.outcome.Outcome.{Outcome}
 use Rattle.feed_replies.specs.declared.outcome.Outcome.TheVariants.{Held as WasHeld, Kept as WasKept}
@@ -213,7 +213,7 @@ module _ {D : Type 0} (model : DiskModel D) (old new : RecorderState D) (m : Hub
           )
 
       disk_step : old.file.failed ≡ false → IsOk (decision old.chain command)
-          → (new.file.failed ≡ true) × (new.file.end ≡ old.file.end) × (new ≡ recorder_state new.file old.chain old.tail old.kept 0 old.most)
+          → (new.file.failed ≡ true) × (new.file.end ≡ old.file.end) × (new ≡ record old { file = new.file; held = 0 })
           → committed model.state new ≡ b → LeavesOnly model old.file.disk new.file.disk (CommitsToEither b (waits ++ added)) → Stepped (command_step m command (Err Disk))
       disk_step good ok faulted front leaves =
           let held_is : new.held ≡ 0 = ap (λ (r : RecorderState D). r.held) faulted.2 in
@@ -234,7 +234,7 @@ module _ {D : Type 0} (model : DiskModel D) (old new : RecorderState D) (m : Hub
           → (old.file.failed ≡ false → IsOk (decision old.chain command) → IfErr result (λ refusal. (refusal ≡ Memory) ⊎ (refusal ≡ Disk)))
           → OnOk result ((old.file.failed ≡ false) × IsOk (decision old.chain command))
           → IfErr result (λ refusal. refusal ≢ Disk → new ≡ old)
-          → IfErr result (λ refusal. refusal ≡ Disk → (new.file.failed ≡ true) × (new.file.end ≡ old.file.end) × (new ≡ recorder_state new.file old.chain old.tail old.kept 0 old.most))
+          → IfErr result (λ refusal. refusal ≡ Disk → (new.file.failed ≡ true) × (new.file.end ≡ old.file.end) × (new ≡ record old { file = new.file; held = 0 }))
           → IfOk result (λ outcome. Tells old outcome new) → OnOk result (new.file.failed ≡ false)
           → OnOk result (model.is_honest old.file.disk → committed model.state new ++ staged model.state new ≡ (b ++ waits) ++ added) → IfErr result (λ _. committed model.state new ≡ b)
           → (old.file.failed ≡ false → LeavesOnly model old.file.disk new.file.disk (CommitsToEither b (waits ++ added)))
@@ -268,7 +268,7 @@ module _ {D : Type 0} (model : DiskModel D) (old new : RecorderState D) (m : Hub
               ]
 
     flushed : (kept : Kept) → old.file.failed ≡ false → new.file.failed ≡ false → kept ≡ kept_by_recorder new
-        → new ≡ recorder_state new.file old.chain old.tail (old.kept + old.held) 0 old.most → committed model.state new ≡ b ++ waits → Stepped (flush_step m (Ok kept))
+        → new ≡ record old { file = new.file; kept = old.kept + old.held; held = 0 } → committed model.state new ≡ b ++ waits → Stepped (flush_step m (Ok kept))
     flushed kept good fine kept_by_is new_is grows =
         let held_is : new.held ≡ 0 = ap (λ (r : RecorderState D). r.held) new_is in
         let kept_is : new.kept ≡ old.kept + old.held = ap (λ (r : RecorderState D). r.kept) new_is in
@@ -287,7 +287,7 @@ module _ {D : Type 0} (model : DiskModel D) (old new : RecorderState D) (m : Hub
         )
 
     flush_failed : old.file.failed ≡ false → 0 < old.held
-        → (new.file.failed ≡ true) × (new.file.end ≡ old.file.end) × (new ≡ recorder_state new.file old.chain old.tail old.kept 0 old.most)
+        → (new.file.failed ≡ true) × (new.file.end ≡ old.file.end) × (new ≡ record old { file = new.file; held = 0 })
         → committed model.state new ≡ b → LeavesOnly model old.file.disk new.file.disk (CommitsToEither b waits) → Stepped (flush_step m (Err Disk))
     flush_failed good some faulted front leaves =
         let held_is : new.held ≡ 0 = ap (λ (r : RecorderState D). r.held) faulted.2 in
@@ -304,8 +304,8 @@ module _ {D : Type 0} (model : DiskModel D) (old new : RecorderState D) (m : Hub
         → (old.file.failed ≡ true → (result ≡ Err Failed) × (new ≡ old))
         → IfErr result (λ refusal. ((refusal ≡ Failed) × (old.file.failed ≡ true)) ⊎ (refusal ≡ Disk))
         → (old.file.failed ≡ false → old.held ≡ 0 → (result ≡ Ok (kept_by_recorder old)) × (new ≡ old))
-        → IfErr result (λ refusal. refusal ≡ Disk → (new.file.failed ≡ true) × (new.file.end ≡ old.file.end) × (new ≡ recorder_state new.file old.chain old.tail old.kept 0 old.most))
-        → IfOk result (λ kept. (kept ≡ kept_by_recorder new) × (new ≡ recorder_state new.file old.chain old.tail (old.kept + old.held) 0 old.most))
+        → IfErr result (λ refusal. refusal ≡ Disk → (new.file.failed ≡ true) × (new.file.end ≡ old.file.end) × (new ≡ record old { file = new.file; held = 0 }))
+        → IfOk result (λ kept. (kept ≡ kept_by_recorder new) × (new ≡ record old { file = new.file; kept = old.kept + old.held; held = 0 }))
         → OnOk result ((old.file.failed ≡ false) × (new.file.failed ≡ false))
         → OnOk result (model.is_honest old.file.disk → committed model.state new ≡ b ++ waits) → IfErr result (λ _. committed model.state new ≡ b)
         → (old.file.failed ≡ false → LeavesOnly model old.file.disk new.file.disk (CommitsToEither b waits))

@@ -2,7 +2,7 @@
 ghost use Rattle.std.specs.Prelude.{◌≡◌, ◌≢◌, ◌≤◌, ℕ, None, Some, Err, Option, length, IsSome, IfErr};
 ghost use Rattle.serve_machine.specs.Hub.{HubState, command_step, flush_step, group_step};
 ghost use Rattle.feed_records.specs.declared.item.Record.{Record as RecordOf};
-ghost use Rattle.file_recorder.specs.Recorder.{RecorderState, recorder_state};
+ghost use Rattle.file_recorder.specs.Recorder.{RecorderState};
 ghost use Rattle.file_recorder.specs.Running.{Replies, reply_of, reply_of_flush};
 ghost use Rattle.file_recorder.specs.Taking.{IsWholeChain};
 ghost use Rattle.serve_hub.specs.declared.opening.Lost.{Lost};
@@ -105,7 +105,7 @@ pub(crate) fn group_file<D: Disk>(file: &mut Option<Recorder<D>>, most: u32)
     requires few { most ≤ 1024 }
     requires none { (recorder : RecorderState D) → file.old ≡ Some recorder → recorder.held ≡ 0 }
     ensures set { (recorder : RecorderState D) → file.old ≡ Some recorder
-        → file.new ≡ Some (recorder_state recorder.file recorder.chain recorder.tail recorder.kept recorder.held most) }
+        → file.new ≡ Some (record recorder { most = most }) }
     ensures stays { file.new ≡ None → file.old ≡ None }
 {
     if let Some(recorder) = file {
