@@ -13,11 +13,11 @@ use Rattle.serve_live.specs.declared.names.StreamName.{StreamName}
 use Rattle.archive_cut.specs.Continuing.{firsts_of}
 use Rattle.archive_cut.specs.Cut.{ends_of}
 use Rattle.archive_cut.specs.Cutting.{gap_if, heard_ends}
+use Rattle.archive_cut.specs.HeadsLaws.{NextPage}
 use Rattle.archive_cut.specs.Heads.{StandUpTo, said_of, streams_after, streams_by}
 use Rattle.serve_live.specs.Renaming.{head_of, names_of}
 use Rattle.serve_live.specs.RenamingLaws.{old_names}
 use Rattle.archive_cut.proofs.Starts.{after_both}
-use Rattle.archive_cut.proofs.Walked.{NextPage}
 
 -- ---- a page at the front
 pub all_taken : (bytes : List ℕ) (page : Page) → bytes ≡ page_bytes page → bytes ≡ take (page_size page) (page_bytes page)

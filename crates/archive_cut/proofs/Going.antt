@@ -1,6 +1,6 @@
 -- The streams that go on with one another, by what the heads of pages leave of them.
-use Rattle.std.proofs.Common.{◌≡◌, ℕ, ◌+◌, ◌-◌, Bool, true, List, [], ◌∷◌, Some, length, map, refl, sym, ◌∙◌, ap, arith, eq-eqb, inl, inr}
-use Rattle.std.specs.Prelude.{nat_eq, not, ◌||◌, find}
+use Rattle.std.proofs.Common.{◌≡◌, ℕ, ◌+◌, ◌-◌, Bool, true, List, [], ◌∷◌, length, map, refl, sym, ◌∙◌, ap, arith, eq-eqb, inl, inr}
+use Rattle.std.specs.Prelude.{nat_eq, not, ◌||◌}
 use Rattle.std.specs.List.{AllByRecursion, filter, flat_map, list_any}
 use Rattle.std.proofs.lemmas.Bool.{cases_Bool, cases_eq, cond-true, cond-false, false≢true, ne_eqb}
 use Rattle.std.proofs.lemmas.List.{append-nil}
@@ -9,8 +9,11 @@ use Rattle.ogg_page.specs.Page.{Page, IsPage, bytes_of_pages}
 use Rattle.link_chain.specs.declared.stream_state.StreamState.{StreamState}
 use Rattle.link_chain.specs.ChainState.{state_of}
 use Rattle.link_chain.specs.Links.{AreLinks, IsLink, has_ended, pages_with, serials_of}
-use Rattle.archive_cut.specs.Continuing.{name_on, named_page, names_on, open_states, open_streams, page_by, serves}
-use Rattle.archive_cut.specs.declared.continuing.Named.{Named}
+use Rattle.serve_live.specs.Following.{open_streams}
+use Rattle.serve_live.specs.Heard.{named_page}
+use Rattle.serve_live.specs.Names.{name_in as stream_in}
+use Rattle.serve_live.specs.declared.names.StreamName.{StreamName}
+use Rattle.archive_cut.specs.Continuing.{name_on, names_on, open_states}
 use Rattle.archive_cut.specs.Heads.{streams_after}
 use Rattle.archive_cut.specs.Joined.{continued, name_in, names_in_order, open_in, pairs_of}
 use Rattle.archive_cut.proofs.Starts.{streams_of}
@@ -49,32 +52,44 @@ with_name first begin page name =
       sequence = (page.sequence - number_behind (pages_with page.serial begin)) + number_behind (pages_with name first);
     }
 
-abbrev names_of_both : List Page → List Page → List ℕ → List ℕ → List Named
+abbrev names_of_both : List Page → List Page → List ℕ → List ℕ → List StreamName
 names_of_both first begin xs ys = names_on (map (state_of begin) xs) (map (state_of first) ys)
 
-named : (first begin : List Page) (page : Page) (xs ys : List ℕ) → length xs ≡ length ys → list_any (nat_eq page.serial) xs ≡ true →
-    page_by (find (serves page.serial) (names_of_both first begin xs ys)) page ≡ with_name first begin page (name_in (pairs_of xs ys) page.serial)
+abbrev page_under : Page → StreamName → Page
+page_under page stream = record page { serial = stream.name; sequence = stream.more + (page.sequence - stream.less) }
+
+named_on : (first begin : List Page) (page : Page) (old new : ℕ) → page.serial ≡ new →
+    page_under page (name_on (state_of begin new) (state_of first old)) ≡ with_name first begin page old
 unfolding with_name
+named_on first begin page old new same =
+    let next : ℕ = number_behind (pages_with old first) in
+    let done : ℕ → ℕ = λ serial. number_behind (pages_with serial begin) in
+    let turned : next + (page.sequence - done new) ≡ (page.sequence - done new) + next = omega arith in
+    ap (λ n. record page { serial = old; sequence = n }) turned
+    ∙ ap (λ s. record page { serial = old; sequence = (page.sequence - done s) + next }) (sym same)
+
+named : (first begin : List Page) (page : Page) (xs ys : List ℕ) → length xs ≡ length ys → list_any (nat_eq page.serial) xs ≡ true →
+    named_page (stream_in (names_of_both first begin xs ys)) page ≡ with_name first begin page (name_in (pairs_of xs ys) page.serial)
 named first begin page [] ys len there = absurd (false≢true there)
 named first begin page (x ∷ xs) [] len there = absurd (omega arith)
 named first begin page (x ∷ xs) (y ∷ ys) len there =
-    let own : Named = name_on (state_of begin x) (state_of first y) in
+    let own : StreamName = name_on (state_of begin x) (state_of first y) in
     let test : Bool = nat_eq x page.serial in
     elim (cases_eq page.serial x) [
       | inl same ↦
           (let yes' : test ≡ true = eq-eqb x page.serial (sym same) in
-          ap (λ f. page_by f page) (cond-true test (Some own) (find (serves page.serial) (names_of_both first begin xs ys)) yes')
-          ∙ ap (λ s. record page { serial = y; sequence = (page.sequence - number_behind (pages_with s begin)) + number_behind (pages_with y first) }) (sym same)
+          ap (page_under page) (cond-true test own (stream_in (names_of_both first begin xs ys) page.serial) yes')
+          ∙ named_on first begin page y x same
           ∙ ap (with_name first begin page) (sym (cond-true test y (name_in (pairs_of xs ys) page.serial) yes')))
       | inr other ↦
           (let no' = ne_eqb x page.serial (λ e. other (sym e)) in
-          ap (λ f. page_by f page) (cond-false test (Some own) (find (serves page.serial) (names_of_both first begin xs ys)) no')
+          ap (page_under page) (cond-false test own (stream_in (names_of_both first begin xs ys) page.serial) no')
           ∙ named first begin page xs ys (omega (arith, len)) (sym (ap (λ b. b || list_any (nat_eq page.serial) xs) (ne_eqb page.serial x other)) ∙ there)
           ∙ ap (with_name first begin page) (sym (cond-false test y (name_in (pairs_of xs ys) page.serial) no')))
     ]
 
 pub named_as_continued : (first begin : List Page) (page : Page) → length (open_in begin) ≡ length (open_in first) →
     list_any (nat_eq page.serial) (open_in begin) ≡ true →
-    named_page (names_on (open_states begin) (open_states first)) page ≡ continued first begin (names_in_order first begin) page
+    named_page (stream_in (names_on (open_states begin) (open_states first))) page ≡ continued first begin (names_in_order first begin) page
 unfolding with_name
 named_as_continued first begin page len there = named first begin page (open_in begin) (open_in first) len there

@@ -8,6 +8,7 @@ pub mod Cutting
 pub mod Finished
 pub mod CutFault
 pub mod Heads
+pub mod HeadsLaws
 pub mod Starting
 pub mod Placing
 pub mod Stretch

@@ -1,10 +1,13 @@
 //! A file that goes on with the link of the file before.
-ghost use Rattle.std.specs.Prelude.{◌≡◌, ◌≤◌, ◌+◌, ◌-◌, ◌^◌, ◌<◌, ◌++◌, if◌then◌else◌, ℕ, List, [], IfOk, OnOk, IfSome, MatchOption, Option, true, find, length, take, drop};
+ghost use Rattle.std.specs.Prelude.{◌≡◌, ◌≤◌, ◌+◌, ◌-◌, ◌^◌, ◌<◌, ◌++◌, if◌then◌else◌, ℕ, List, [], IfOk, OnOk, IfSome, MatchOption, true, length, take, drop};
 ghost use Rattle.ogg_page.specs.Head.{Stands};
 ghost use Rattle.ogg_page.specs.Page.{Page, IsPage, bytes_of_pages, page_bytes, page_size};
 ghost use Rattle.ogg_page.specs.Window.{KeepsSource};
+ghost use Rattle.serve_live.specs.Following.{open_streams};
+ghost use Rattle.serve_live.specs.Heard.{named_page};
+ghost use Rattle.serve_live.specs.Names.{name_in};
 ghost use Rattle.serve_live.specs.Renaming.{back_of};
-ghost use Rattle.archive_cut.specs.Continuing.{IsMeeting, StandsIn, firsts_of, is_begun_as, name_on, named_page, names_on, number_on, open_streams, serves};
+ghost use Rattle.archive_cut.specs.Continuing.{IsMeeting, StandsIn, firsts_of, is_begun_as, name_on, names_on};
 ghost use Rattle.archive_cut.specs.Cut.{ends_of};
 ghost use Rattle.archive_cut.specs.Heads.{StandUpTo, said_of, streams_after};
 
@@ -16,7 +19,7 @@ use archive_times::Join;
 use link_chain::StreamState;
 use ogg_page::{Memory, PageSource};
 use page_heads::read_front;
-use serve_live::Listener;
+use serve_live::{Listener, StreamName, name_in};
 use std::alloc::Global;
 
 /// Where a page's lacing values are counted.
@@ -24,17 +27,6 @@ const VALUES: u64 = 26;
 
 /// The size of a page without packets.
 const EMPTY: u64 = 27;
-
-/// A stream of a file that goes on with a stream of a link: its serial in the file, and in the link.
-#[derive(Clone, Copy, Debug, PartialEq, Eq)]
-pub struct Named {
-    pub serial: u32,
-    pub name: u32,
-    /// The number in the file of the first page that goes on.
-    pub less: u64,
-    /// The number that this page has in the link.
-    pub more: u64,
-}
 
 /// Where two files meet that go on with one another.
 #[derive(Clone, Copy, Debug, PartialEq, Eq)]
@@ -47,22 +39,11 @@ pub struct Meeting {
     pub number: u64,
 }
 
-/// The streams that haven't ended.
-pub fn open_streams(alloc: Global, streams: &[StreamState]) -> Result<Vec<StreamState>, Memory>
-    ensures { IfOk result (λ found. found.items ≡ open_streams streams.now) }
-{
-    streams
-        .iter()
-        .copied()
-        .filter(|stream| !stream.ended)
-        .collect(alloc)
-}
-
 /// A stream of a Begin, which goes on with a stream of the link.
-fn name_on(begun: &StreamState, first: &StreamState) -> Named
+fn name_on(begun: &StreamState, first: &StreamState) -> StreamName
     ensures { result ≡ name_on begun.now first.now }
 {
-    Named {
+    StreamName {
         serial: begun.serial,
         name: first.serial,
         less: begun.next_sequence,
@@ -75,7 +56,7 @@ pub fn names_on(
     alloc: Global,
     begun: &[StreamState],
     first: &[StreamState],
-) -> Result<Vec<Named>, Memory>
+) -> Result<Vec<StreamName>, Memory>
     ensures { IfOk result (λ names. names.items ≡ names_on begun.now first.now) }
 {
     begun
@@ -85,48 +66,37 @@ pub fn names_on(
         .collect(alloc)
 }
 
-impl Named {
-    /// The number of a page in the link. There is none if it would be too high.
-    fn number_on(self, number: u32) -> Option<u32>
-        ensures { MatchOption result (2 ^ 32 ≤ number_on self number) (λ found. found ≡ number_on self number) }
-    {
-        let rest = u64::from(number).saturating_sub(self.less);
-        match rest.checked_add(self.more) {
-            Some(number) => u32::try_from(number).ok(),
-            None => None,
-        }
+/// The number of a page in the link. There is none if it would be too high.
+fn number_on(stream: StreamName, number: u32) -> Option<u32>
+    ensures { MatchOption result (2 ^ 32 ≤ stream.more + (number - stream.less)) (λ found. found ≡ stream.more + (number - stream.less)) }
+{
+    let rest = u64::from(number).saturating_sub(stream.less);
+    match rest.checked_add(stream.more) {
+        Some(number) => u32::try_from(number).ok(),
+        None => None,
     }
 }
 
-/// The stream with this serial in the file.
-fn name_of(names: &[Named], serial: u32) -> Option<Named>
-    ensures { result ≡ find (serves serial) names.now }
-{
-    names.iter().copied().find(|named| named.serial == serial)
-}
-
 /// What the head of a page of the file says in the link. It is none if the page's number would be too high.
-pub fn name_said(names: &[Named], said: Said) -> Option<Said>
-    ensures { IfSome result (λ found. (page : Page) → said ≡ said_of page → found ≡ said_of (named_page names.now page)) }
+pub fn name_said(names: &[StreamName], said: Said) -> Option<Said>
+    ensures { IfSome result (λ found. (page : Page) → said ≡ said_of page → found ≡ said_of (named_page (name_in names.now) page)) }
 {
-    match name_of(names, said.serial) {
-        Some(named) => match named.number_on(said.number) {
-            Some(number) => Some(Said {
-                serial: named.name,
-                number,
-                ..said
-            }),
-            None => None,
-        },
-        None => Some(said),
+    let stream = name_in(names, said.serial);
+    match number_on(stream, said.number) {
+        Some(number) => Some(Said {
+            serial: stream.name,
+            number,
+            ..said
+        }),
+        None => None,
     }
 }
 
 /// Changes a page of the file, of which this is said, into that of the link, and returns what is said of it there. It is
 /// none if its number would be too high.
-pub fn name_page(names: &[Named], said: Said, page: &mut [u8]) -> Option<Said>
+pub fn name_page(names: &[StreamName], said: Said, page: &mut [u8]) -> Option<Said>
     ensures { IfSome result (λ found. (whole : Page) → IsPage whole → page.old ≡ page_bytes whole → said ≡ said_of whole
-        → (page.new ≡ page_bytes (named_page names.now whole)) × (found ≡ said_of (named_page names.now whole))) }
+        → (page.new ≡ page_bytes (named_page (name_in names.now) whole)) × (found ≡ said_of (named_page (name_in names.now) whole))) }
 {
     match name_said(names, said) {
         Some(found) => {

@@ -13,14 +13,14 @@ ghost use Rattle.link_chain.specs.Recording.{Stream, Recording, Holds, HoldsLink
 ghost use Rattle.chain_rules.specs.Commands.{AreKept, bytes_of_commands, links_behind};
 ghost use Rattle.serve_live.specs.Commands.{NoneBegins};
 ghost use Rattle.link_chain.specs.declared.stream_state.StreamState.{StreamState as StreamStateOf};
-ghost use Rattle.serve_live.specs.Following.{names_on as heard_on};
-ghost use Rattle.serve_live.specs.Heard.{named_after};
+ghost use Rattle.serve_live.specs.Following.{names_on as heard_on, open_streams};
+ghost use Rattle.serve_live.specs.Heard.{named_after, named_page};
 ghost use Rattle.serve_live.specs.Joining.{AreLater};
 ghost use Rattle.serve_live.specs.Names.{name_in};
 ghost use Rattle.serve_live.specs.Live.{IsMomentOf, Moment};
 ghost use Rattle.archive_cut.specs.Cutting.{CutState, GivesOf, IsCutting};
 ghost use Rattle.archive_cut.specs.Files.{AreCuts, CutsHold, HasEnded, Part, bytes_of_cuts, recording_of_cuts};
-ghost use Rattle.archive_cut.specs.Continuing.{named_page, names_on, open_states, open_streams};
+ghost use Rattle.archive_cut.specs.Continuing.{names_on, open_states};
 ghost use Rattle.serve_live.specs.Joined.{IsNew};
 ghost use Rattle.archive_cut.specs.Cut.{HasNumbers, IsCut, ended_bytes};
 ghost use Rattle.archive_cut.specs.Heads.{streams_after};
@@ -211,7 +211,7 @@ pub fn links_go_on()
         → open_streams (streams_after [] pages) ≡ open_states pages }
     ensures names { (first begin : List Page) (page : Page) → length (open_in begin) ≡ length (open_in first)
         → list_any (nat_eq page.serial) (open_in begin) ≡ true
-        → named_page (names_on (open_states begin) (open_states first)) page
+        → named_page (name_in (names_on (open_states begin) (open_states first))) page
         ≡ continued first begin (names_in_order first begin) page }
 {}
 
@@ -219,7 +219,7 @@ pub fn links_go_on()
 /// the numbers that they have reached in the first file, and in the second after the Begin, which isn't heard.
 pub fn listeners_hear_the_joined_link()
     ensures { (first begun : List StreamStateOf) (later : List Page) → AreLater later
-        → bytes_of_pages (named_after (name_in (heard_on [] first begun)) later) ≡ bytes_of_pages (map (named_page (names_on begun first)) later) }
+        → bytes_of_pages (named_after (name_in (heard_on [] first begun)) later) ≡ bytes_of_pages (map (named_page (name_in (names_on begun first))) later) }
 {}
 
 /// Any number of files, each of which goes on with the last link of what came before, are together a chain of links,

@@ -17,7 +17,7 @@ mod placing;
 mod retelling;
 mod stretch;
 
-pub use continuing::{Meeting, Named, meeting_of, name_page, name_said, names_on, open_streams};
+pub use continuing::{Meeting, meeting_of, name_page, name_said, names_on};
 pub use cut::{Cut, hear_from};
 pub use fault::CutFault;
 pub use finishing::{Mark, StreamEnds, Way, mark_last};

@@ -3,7 +3,8 @@
 use Rattle.std.specs.Prelude.{◌≡◌, ◌≢◌, ℕ, ◌+◌, ◌*◌, List, [], ◌++◌, length, drop}
 use Rattle.ogg_page.specs.Page.{Page, bytes_of_pages}
 use Rattle.link_chain.specs.declared.stream_state.StreamState.{StreamState}
-use Rattle.archive_cut.specs.Continuing.{StandsIn, open_streams}
+use Rattle.serve_live.specs.Following.{open_streams}
+use Rattle.archive_cut.specs.Continuing.{StandsIn}
 use Rattle.archive_cut.specs.Cut.{ends_of}
 use Rattle.archive_cut.specs.Heads.{StandUpTo}
 use Rattle.archive_fetch.specs.declared.meetings.Meeting.{Meeting}

@@ -7,10 +7,11 @@ ghost use Rattle.archive_cut.specs.Heads.{StandUpTo};
 ghost use Rattle.archive_fetch.specs.Meetings.{BeginIn, EndIn, Meets, StandIn};
 
 use crate::heads::Memory;
-use archive_cut::{CutFault, open_streams, take_pages};
+use archive_cut::{CutFault, take_pages};
 use link_chain::StreamState;
 use ogg_page::{FIXED_SIZE, LAST, Page, PageSource, SourceFault, split_page};
 use page_heads::{PageFront, read_front};
+use serve_live::open_streams;
 use std::alloc::Global;
 
 /// Where the link that is open at the end of a file goes on in the next one.

@@ -1,9 +1,10 @@
 //! The serials of a cut: none stands in two of its links, if no Skeleton speaks of them. What goes on with a link has the
 //! serials of that link.
 
-use archive_cut::{Named, Said, name_page, name_said, names_on, open_streams, take_page};
+use archive_cut::{Said, name_page, name_said, names_on, take_page};
 use link_chain::StreamState;
 use ogg_page::{FIXED_SIZE, LAST, Memory, PageHead, read_header, write_page};
+use serve_live::{StreamName, open_streams};
 use std::alloc::Global;
 
 /// What the packet begins with that is the first of a Skeleton (Ogg Skeleton 3.0).
@@ -24,7 +25,7 @@ pub(crate) enum NoPlace {
 pub(crate) struct Serials {
     alloc: Global,
     used: Vec<u32>,
-    names: Vec<Named>,
+    names: Vec<StreamName>,
     // the streams of the link as it is written
     streams: Vec<StreamState>,
     // none below is free
@@ -122,7 +123,7 @@ impl Serials {
         } else {
             self.free().unwrap_or(serial)
         };
-        let named = Named {
+        let named = StreamName {
             serial,
             name,
             less: 0,

@@ -1,19 +1,18 @@
 -- Pages that were read at once are given as they are heard.
-use Rattle.std.proofs.Common.{◌≡◌, ℕ, ◌+◌, ◌-◌, ◌≤◌, ◌<◌, Bool, List, ◌++◌, length, take, drop, sym, ◌∙◌, ap, subst, arith, append_assoc, length-append, length-take, length-drop, drop-drop, take-append-drop, refl}
-use Rattle.std.proofs.lemmas.Grind.{common_steps}
-use Rattle.std.proofs.lemmas.List.{drop_at}
-use Rattle.std.proofs.Math.Seq.{take-add, take-append_seam}
-use Rattle.ogg_page.specs.Page.{Page, page_bytes, page_size}
+use Rattle.std.proofs.Common.{◌≡◌, ℕ, ◌+◌, ◌-◌, ◌≤◌, Bool, List, ◌++◌, length, take, drop, sym, ◌∙◌, ap, subst, arith, append_assoc, length-append, length-take, length-drop, drop-drop, take-append-drop, refl}
+use Rattle.std.proofs.lemmas.List.{drop_at, take_all}
+use Rattle.std.proofs.Math.Seq.{take-append_seam}
+use Rattle.ogg_page.specs.Page.{page_bytes, page_size}
 use Rattle.ogg_page.specs.LogicalStream.{is_first}
-use Rattle.ogg_page.specs.Head.{Stands, head_size}
+use Rattle.ogg_page.specs.Head.{Stands}
 use Rattle.serve_live.specs.Names.{name_in}
 use Rattle.serve_live.specs.Heads.{next_heard, IsHeadAt, IsHeadOf}
 use Rattle.serve_live.specs.Listening.{part_at}
-use Rattle.serve_live.specs.Pulling.{AreGiven, AreRead, ArePulled, names_from, names_kept}
+use Rattle.serve_live.specs.Pulling.{AreGiven, ArePulled, names_from, names_kept}
 use Rattle.serve_live.specs.declared.names.StreamName.{StreamName}
 use Rattle.serve_live.specs.declared.heads.HeardHead.{HeardHead}
 use Rattle.serve_live.specs.declared.pages.PageLeft.{PageLeft}
-use Rattle.serve_live.proofs.NextPage.{HasNext, IsAfter, heard_size, part_in_front, part_of_body, part_of_head, pulled_some, stands}
+use Rattle.serve_live.proofs.NextPage.{HasNext, IsAfter, heard_size, part_in_front, pulled_some}
 use Rattle.serve_live.proofs.Passing.{none_passed, passed_on, passed_some}
 
 -- what was read, from a later place on
@@ -27,92 +26,59 @@ same_part bytes buffer place given whole skip n read le room inside =
     ∙ part_in_front (drop place bytes) skip n whole le (omega (arith, length-drop place bytes, inside))
     ∙ ap (take n) (drop-drop skip place bytes)
 
--- so many of the first, and of those so many again
-pub take_twice : (n : ℕ) (l : List ℕ) → take n (take n l) ≡ take n l
-take_twice n l = grind (arith, common_steps)
+-- A page is changed where it stands: its first bytes are those that are heard, and behind its checksum it stays.
+pub put_in_place : (given size : ℕ) (before own free now : List ℕ) → 26 ≤ size → length own ≡ size → take size free ≡ take size own
+    → drop 26 free ≡ drop 26 (drop given before) → now ≡ take given before ++ free
+    → now ≡ take given before ++ (own ++ drop (given + size) before)
+put_in_place given size before own free now long len first behind is =
+    let back : drop size free ≡ drop (given + size) before =
+    ap (λ n. drop n free) (let e : size ≡ 26 + (size - 26) = omega (arith, long) in e)
+    ∙ sym (drop-drop (size - 26) 26 free)
+    ∙ ap (drop (size - 26)) behind
+    ∙ drop-drop (size - 26) 26 (drop given before)
+    ∙ ap (λ n. drop n (drop given before)) (let e : 26 + (size - 26) ≡ size = omega (arith, long) in e)
+    ∙ drop-drop size given before in
+    is
+    ∙ ap (λ l. take given before ++ l)
+    (sym (take-append-drop size free)
+    ∙ ap (λ l. l ++ drop size free) (first ∙ take_all size own (omega (arith, len)))
+    ∙ ap (λ l. own ++ l) back)
 
--- the bytes of a page, of which the head was put before the body that was read
-abbrev pub made : HeardHead → ℕ → List ℕ → List ℕ
-made head given buffer = take head.len head.bytes ++ take (head.size - head.len) (drop (given + head.len) buffer)
-
-pub made_copied : (head : HeardHead) (given : ℕ) (before now : List ℕ) → head.len ≤ head.size
-    → now ≡ take given before ++ (take head.len head.bytes ++ drop (given + head.len) before)
-    → now ≡ take given before ++ (made head given before ++ drop (given + head.size) before)
-made_copied head given before now le copied =
-    let own = take head.len head.bytes in
-    let rest = drop (given + head.len) before in
-    let n = head.size - head.len in
-    let behind : drop n rest ≡ drop (given + head.size) before =
-    drop-drop n (given + head.len) before ∙ ap (λ k. drop k before) (omega (arith, le)) in
-    copied
-    ∙ ap (λ l. take given before ++ (own ++ l)) (sym (take-append-drop n rest) ∙ ap (λ l. take n rest ++ l) behind)
-    ∙ ap (λ l. take given before ++ l) (sym (append_assoc own (take n rest) (drop (given + head.size) before)))
-
-pub made_is : (names : ℕ → StreamName) (bytes before : List ℕ) (page : Page) (head : HeardHead) (place given : ℕ) → Stands (drop place bytes) page
-    → IsHeadOf names page head → 26 ≤ head.len → head.len ≤ head.size
-    → take (head.size - head.len) (drop (given + head.len) before) ≡ part_at (place + head.len) (head.size - head.len) bytes
-    → made head given before ≡ part_at 0 head.size (page_bytes (next_heard names page))
-made_is names bytes before page head place given s h long le read =
-    let own = page_bytes (next_heard names page) in
-    let n = head.size - head.len in
-    let front : take head.len head.bytes ≡ take head.len own =
-    sym (take_twice head.len head.bytes) ∙ part_of_head names page head 0 head.len h (omega arith) in
-    let body : take n (drop (given + head.len) before) ≡ take n (drop head.len own) =
-    read ∙ part_of_body names bytes page place head.len n s long (omega (arith, le, h.size)) in
-    (λ i. front i ++ body i)
-    ∙ sym (take-add head.len n own)
-    ∙ ap (λ k. take k own) (omega (arith, le))
-
-pub goes_on : (committed more rest : List ℕ) (names : List StreamName) (start left after : PageLeft) (head : HeardHead) (given end : ℕ) (before now : List ℕ)
+pub goes_on : (committed more rest : List ℕ) (names : List StreamName) (start left after : PageLeft) (begins : Bool) (given size end : ℕ) (before now : List ℕ)
     → AreGiven committed more rest names start left given end before
     → (h : HasNext committed (names_kept names left) left.place left.skip (drop given rest))
-    → IsHeadOf (name_in (names_kept names left)) h.page head
-    → left.skip ≡ 0 → 26 ≤ head.len → head.len ≤ head.size → given + head.size ≤ end → end ≤ length before
+    → begins ≡ is_first h.page → size ≡ page_size h.page
+    → left.skip ≡ 0 → given + size ≤ end → end ≤ length before
     → left.place + (end - given) ≤ length committed
-    → now ≡ take given before ++ (take head.len head.bytes ++ drop (given + head.len) before)
-    → IsAfter left after head.begins head.size head.size
-    → AreGiven committed more rest names start after (given + head.size) end now
-goes_on committed more rest names start left after head given end before now b h is skip long le fits room inside copied a =
+    → now ≡ take given before ++ (page_bytes (next_heard (name_in (names_kept names left)) h.page) ++ drop (given + size) before)
+    → IsAfter left after begins size size
+    → AreGiven committed more rest names start after (given + size) end now
+goes_on committed more rest names start left after begins given size end before now b h begins_is size_is skip fits room inside copied a =
     let kept = names_kept names left in
     let bytes = committed ++ more in
     let whole = end - given in
-    let body = head.size - head.len in
-    let later = end - (given + head.size) in
+    let later = end - (given + size) in
+    let own : List ℕ = page_bytes (next_heard (name_in kept) h.page) in
+    let own_size : length own ≡ size = heard_size (name_in kept) h.page ∙ sym size_is in
     let inside_all : left.place + whole ≤ length bytes = omega (arith, inside, length-append committed more) in
     let room_all : given + whole ≤ length before = omega (arith, room, fits) in
-    let s = stands committed bytes more kept left.place left.skip (drop given rest) h refl in
-    let read_body = same_part bytes before left.place given whole head.len body b.read (omega (arith, le, fits)) room_all inside_all in
-    let part_is : made head given before ≡ part_at left.skip head.size (page_bytes (next_heard (name_in kept) h.page)) =
-    made_is (name_in kept) bytes before h.page head left.place given s is long le read_body
-    ∙ ap (λ k. part_at k head.size (page_bytes (next_heard (name_in kept) h.page))) (sym skip) in
-    let none : left.skip + head.size ≡ head.size = omega (arith, skip) in
-    let whole_copied = made_copied head given before now le copied in
-    let pulled = pulled_some committed rest names left after head.begins given head.size head.size before (made head given before) now
-    b.pulled h (omega (arith, room, fits)) (omega (arith, none)) is.size is.begins whole_copied part_is a in
-    let passed = passed_some committed kept (drop given rest) left after head.begins head.size head.size h (omega (arith, none)) is.size is.begins a in
-    let to : after.place ≡ left.place + head.size = (a.behind none).0 in
-    let front : List ℕ = take given before ++ made head given before in
-    let front_long : length front ≡ given + head.size =
-    omega (
-      arith,
-      length-append (take given before) (made head given before),
-      length-take given before,
-      room,
-      fits,
-      ap length part_is,
-      length-take head.size (drop left.skip (page_bytes (next_heard (name_in kept) h.page))),
-      length-drop left.skip (page_bytes (next_heard (name_in kept) h.page)),
-      heard_size (name_in kept) h.page,
-      is.size,
-      skip,
-    ) in
-    let behind : drop (given + head.size) now ≡ drop (given + head.size) before =
-    ap (drop (given + head.size)) (whole_copied ∙ sym (append_assoc (take given before) (made head given before) (drop (given + head.size) before)))
-    ∙ drop_at front (drop (given + head.size) before) (given + head.size) front_long in
+    let part_is : own ≡ part_at left.skip size own =
+    sym (take_all size own (omega (arith, own_size))) ∙ ap (λ k. part_at k size own) (sym skip) in
+    let none : left.skip + size ≡ size = omega (arith, skip) in
+    let pulled = pulled_some committed rest names left after begins given size size before own now
+    b.pulled h (omega (arith, room, fits)) (omega (arith, none)) size_is begins_is copied part_is a in
+    let passed = passed_some committed kept (drop given rest) left after begins size size h (omega (arith, none)) size_is begins_is a in
+    let to : after.place ≡ left.place + size = (a.behind none).0 in
+    let front : List ℕ = take given before ++ own in
+    let front_long : length front ≡ given + size =
+    omega (arith, length-append (take given before) own, length-take given before, room, fits, own_size) in
+    let behind : drop (given + size) now ≡ drop (given + size) before =
+    ap (drop (given + size)) (copied ∙ sym (append_assoc (take given before) own (drop (given + size) before)))
+    ∙ drop_at front (drop (given + size) before) (given + size) front_long in
     record {
       pulled = pulled;
       read = ap (take later) behind
-          ∙ same_part bytes before left.place given whole head.size later b.read (omega (arith, fits)) room_all inside_all
+          ∙ same_part bytes before left.place given whole size later b.read (omega (arith, fits)) room_all inside_all
           ∙ ap (λ k. part_at k later bytes) (sym to);
       passed = passed_on committed start left after b.passed passed;
     }

@@ -1,9 +1,9 @@
 -- A listener goes on hearing what it should, while it pulls and while more is committed.
-use Rattle.std.proofs.Common.{◌≡◌, ℕ, ◌+◌, ◌-◌, ◌≤◌, Bool, true, false, cond, List, [], ◌∷◌, ◌++◌, length, take, drop, refl, sym, ◌∙◌, ap, subst, arith, append_assoc, length-append, take-append-drop, inl, inr}
+use Rattle.std.proofs.Common.{◌≡◌, ℕ, ◌+◌, ◌-◌, ◌≤◌, Bool, true, false, cond, List, [], ◌∷◌, ◌++◌, length, take, drop, refl, sym, ◌∙◌, ap, arith, append_assoc, length-append, take-append-drop, inl, inr}
 use Rattle.std.specs.Prelude.{◌||◌}
 use Rattle.std.specs.List.{AllByRecursion, list_any}
 use Rattle.std.proofs.lemmas.Bool.{cases_Bool, cond-true, cond-false, cond_both}
-use Rattle.std.proofs.lemmas.List.{append-nil, drop-append-le, drop_at}
+use Rattle.std.proofs.lemmas.List.{drop-append-le, drop_at}
 use Rattle.std.proofs.lemmas.List.Folds.{list_any-append}
 use Rattle.ogg_page.specs.Page.{Page, IsPage, bytes_of_pages}
 use Rattle.ogg_page.specs.LogicalStream.{is_first}
@@ -13,7 +13,7 @@ use Rattle.serve_live.specs.Following.{GoesOn, IsFollowing, name_since}
 use Rattle.serve_live.specs.Heard.{end_pages, gap, heard_after, heard_bytes, named_after, named_page}
 use Rattle.serve_live.specs.Hearing.{IsHearing, gap_since}
 use Rattle.serve_live.specs.Listening.{Gives, IsWithin, ListenerState}
-use Rattle.serve_live.specs.Live.{IsLive, Moment}
+use Rattle.serve_live.specs.Live.{Moment}
 use Rattle.serve_live.specs.Names.{name_in, plain}
 use Rattle.serve_live.specs.Pulling.{HasMoved, names_from}
 use Rattle.serve_live.specs.declared.names.StreamName.{StreamName}

@@ -1,6 +1,6 @@
 -- A listener that goes on in the next file, where the link that it hears goes on, and what it was given there. Ours.
-use Rattle.std.specs.Prelude.{◌≡◌, ℕ, ◌+◌, ◌-◌, ◌%◌, ◌^◌, if◌then◌else◌, List, [], ◌++◌, length, map, drop, zip}
-use Rattle.std.specs.List.{AllByRecursion, list_any}
+use Rattle.std.specs.Prelude.{◌≡◌, ℕ, ◌+◌, ◌-◌, ◌%◌, ◌^◌, not, if◌then◌else◌, List, [], ◌++◌, length, map, drop, zip}
+use Rattle.std.specs.List.{AllByRecursion, filter, list_any}
 use Rattle.ogg_page.specs.Page.{Page, IsPage, bytes_of_pages}
 use Rattle.ogg_page.specs.LogicalStream.{is_first}
 use Rattle.link_chain.specs.declared.stream_state.StreamState.{StreamState}
@@ -10,6 +10,10 @@ use Rattle.serve_live.specs.Names.{name_in, plain}
 use Rattle.serve_live.specs.declared.names.StreamName.{StreamName}
 
 -- ---- which streams go on
+-- the streams that haven't ended, in order
+abbrev pub open_streams : List StreamState → List StreamState
+open_streams streams = filter (λ (stream : StreamState). not stream.ended) streams
+
 -- A stream of the next file goes on with one of the file before: it has the serial under which that was heard, and the
 -- numbers that follow those that were heard of it. The pages with which it begins in the next file don't count. After the
 -- highest number 0 follows.

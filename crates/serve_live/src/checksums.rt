@@ -44,24 +44,16 @@ fn with_zeros(before: u32, count: u64) -> u32
     sum
 }
 
-/// The same of 2^power zeros: the checksum is linear, so each of its bits becomes what the table has.
+/// The same of 2^power zeros: the checksum is linear, so each four of its bits become what the table has.
 fn moved(before: u32, power: u32) -> u32
     requires { power ≤ 15 }
     ensures { (front : List ℕ) → before ≡ checksum_of front → result ≡ checksum_of (front ++ replicate (2 ^ power) 0) }
 {
     let row = &MOVED[power as usize];
     let mut sum = 0;
-    for bit in 0..32 {
-        sum ^= chosen(row[bit], (before >> bit) % 2);
+    for place in 0..8 {
+        let four = (before >> (4 * place)) % 16;
+        sum ^= row[place][four as usize];
     }
     sum
-}
-
-/// The entry if the bit is 1, or else 0. The entry is read in any case, so that no branch is foretold wrongly.
-fn chosen(entry: u32, bit: u32) -> u32
-    requires { bit < 2 }
-    ensures one { bit ≡ 1 → result ≡ entry }
-    ensures none { bit ≡ 0 → result ≡ 0 }
-{
-    if bit == 1 { entry } else { 0 }
 }

@@ -38,5 +38,5 @@ pub use laws::{
 };
 pub use link_chain::StreamState;
 pub use listener::{JoinPlace, Listener};
-pub use names::StreamName;
+pub use names::{StreamName, name_in, open_streams};
 pub use ogg_page::{Memory, PageSource, SourceFault};

@@ -206,7 +206,8 @@ impl Listener {
     /// A listener that hears on in the next file, in which the link goes on that this one has heard so far. `old` are the
     /// streams that are open in its file, and `new` those that go on with them in the next, in order, as the pages leave
     /// them with which the link begins there. These end at `begun`, and aren't heard: what follows is heard under the
-    /// serials that this listener has heard, and with the numbers that follow. Memory is taken for the streams alone.
+    /// serials that this listener has heard, and with the numbers that follow. Memory is taken for the streams alone: none
+    /// if no stream goes on.
     pub fn go_on(
         &self,
         alloc: Global,
@@ -215,6 +216,8 @@ impl Listener {
         new: &[StreamState],
     ) -> Result<Listener, Memory>
         ensures on { IfOk result (λ listener. GoesOn begun (names_on self.now.names old.now new.now) listener) }
+        // Memory is taken for the streams that go on alone.
+        ensures memory { OnErr result ((0 < length old.now) × (0 < length new.now)) }
     {
         let names = names_on(alloc, self.names_heard(), old, new)?;
         Ok(Listener {

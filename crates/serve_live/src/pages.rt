@@ -7,10 +7,10 @@ ghost use Rattle.serve_live.specs.Heads.{IsHeadAt};
 ghost use Rattle.serve_live.specs.Pulling.{AreGiven, ArePulled, HasPassed, names_from};
 ghost use Rattle.serve_live.specs.declared.pages.PageLeft.{PageLeft as PageLeftOf};
 
-use crate::heads::{HeardHead, heard_head, read_head};
+use crate::heads::{HeardHead, put_heard, read_head};
 use crate::names::StreamName;
 use ogg_page::{PageSource, SourceFault};
-use page_heads::{LONGEST_HEAD, PageFront, facts_of};
+use page_heads::{LONGEST_HEAD, facts_of};
 
 /// The page that is heard next stands at the place, and `skip` of its bytes were heard. Once another link has begun
 /// (`anew`), pages are heard as they are.
@@ -212,18 +212,14 @@ fn give_whole(
     ensures further { IfSome result (λ p. (given < p.0) × (p.0 ≤ end) × (p.1.skip ≡ 0) × (p.1.place ≡ left.place + (p.0 - given))) }
     ensures none { result ≡ None → buffer.new ≡ buffer.old }
 {
-    let front = &buffer[given..given + LONGEST_HEAD];
-    let facts = facts_of(front)?;
+    let facts = facts_of(&buffer[given..given + LONGEST_HEAD])?;
     if facts.size > (end - given) as u64 {
         return None;
     }
-    let mut bytes = [0; LONGEST_HEAD];
-    bytes.copy_from_slice(front);
-    let head = heard_head(PageFront { bytes, facts }, kept_names(names, left.anew));
-    let (own, _) = head.bytes.split_at(head.len);
-    copy_on(own, given, buffer);
-    let after = left_after(left, head.begins, head.size, head.size);
-    Some((given + head.size as usize, after))
+    let (_, page) = buffer.split_at_mut(given);
+    put_heard(facts, kept_names(names, left.anew), page);
+    let after = left_after(left, facts.begins, facts.size, facts.size);
+    Some((given + facts.size as usize, after))
 }
 
 /// Gives the whole pages that were read into the buffer behind what was given, up to the end. It returns the count of all

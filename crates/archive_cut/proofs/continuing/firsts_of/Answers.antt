@@ -3,7 +3,7 @@ use Rattle.ogg_page.specs.Head.{Stands}
 use Rattle.link_chain.specs.declared.stream_state.StreamState.{StreamState}
 use Rattle.archive_cut.specs.Continuing.{firsts_of}
 use Rattle.archive_cut.proofs.Continued.{IsFound, found_on}
-use Rattle.archive_cut.proofs.Walked.{next_page}
+use Rattle.archive_cut.specs.HeadsLaws.{next_page}
 use Rattle.archive_cut.proofs.continuing.firsts_of.Goals as goal
 
 nobody : StreamState

@@ -2,7 +2,7 @@ use Rattle.std.proofs.Common.{drop, sym, ◌∙◌, ap, subst, arith}
 use Rattle.ogg_page.specs.Head.{Stands}
 use Rattle.archive_cut.specs.Heads.{streams_by}
 use Rattle.archive_cut.proofs.Continued.{passed_on}
-use Rattle.archive_cut.proofs.Walked.{next_page}
+use Rattle.archive_cut.specs.HeadsLaws.{next_page}
 use Rattle.archive_cut.proofs.continuing.streams_at.Goals as goal
 
 pub pages-preserved : goal.pages-preserved

@@ -3,7 +3,7 @@ use Rattle.std.specs.List.{AllByRecursion}
 use Rattle.ogg_page.specs.Page.{IsPage}
 use Rattle.page_heads.specs.Laws.{later_failed}
 use Rattle.archive_cut.specs.Cut.{ends_of}
-use Rattle.archive_cut.specs.Heads.{StandUpTo, streams_after}
+use Rattle.archive_cut.specs.Heads.{StandUpTo}
 use Rattle.archive_cut.specs.declared.fault.CutFault.TheVariants.{Source}
 use Rattle.archive_cut.proofs.cut.joined.Goals as goal
 

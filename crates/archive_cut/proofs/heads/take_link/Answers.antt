@@ -3,7 +3,8 @@ use Rattle.ogg_page.specs.Head.{Stands}
 use Rattle.ogg_page.specs.Page.{bytes_of_pages}
 use Rattle.page_heads.specs.Laws.{later_failed}
 use Rattle.archive_cut.specs.Heads.{streams_after, streams_by, up_to_first}
-use Rattle.archive_cut.proofs.Walked.{all_walked, found_end, found_first, next_page, sought_on, walked_on}
+use Rattle.archive_cut.specs.HeadsLaws.{next_page}
+use Rattle.archive_cut.proofs.Walked.{all_walked, found_end, found_first, sought_on, walked_on}
 use Rattle.archive_cut.proofs.heads.take_link.Goals as goal
 
 pub returns-then-said-clause-found : goal.returns-then-said-clause-found

@@ -2,7 +2,8 @@ use Rattle.std.proofs.Common.{drop, refl, sym, ◌∙◌, ap, subst, arith}
 use Rattle.ogg_page.specs.Head.{Stands}
 use Rattle.page_heads.specs.Laws.{later_failed}
 use Rattle.archive_cut.specs.Heads.{streams_after, streams_by}
-use Rattle.archive_cut.proofs.Walked.{all_walked, next_page, walked_on}
+use Rattle.archive_cut.specs.HeadsLaws.{next_page}
+use Rattle.archive_cut.proofs.Walked.{all_walked, walked_on}
 use Rattle.archive_cut.proofs.heads.take_pages.Goals as goal
 
 pub pages-preserved : goal.pages-preserved

@@ -2,7 +2,8 @@ use Rattle.std.proofs.Common.{drop, sym, ◌∙◌, ap, subst}
 use Rattle.ogg_page.specs.Head.{Stands}
 use Rattle.page_heads.specs.declared.front.PageFacts.{PageFacts}
 use Rattle.archive_cut.specs.Heads.{StandUpTo}
-use Rattle.archive_fetch.proofs.EndPages.{next_page, passed_on, passed_stand}
+use Rattle.archive_cut.specs.HeadsLaws.{next_page}
+use Rattle.archive_fetch.proofs.EndPages.{passed_on, passed_stand}
 use Rattle.archive_fetch.proofs.meetings.begun_end.Goals as goal
 
 pub pages-preserved : goal.pages-preserved

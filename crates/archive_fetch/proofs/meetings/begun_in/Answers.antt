@@ -1,5 +1,5 @@
 use Rattle.std.proofs.Common.{◌≡◌, sym, ◌∙◌, ap, subst}
-use Rattle.archive_cut.specs.Continuing.{open_streams}
+use Rattle.serve_live.specs.Following.{open_streams}
 use Rattle.archive_cut.specs.Heads.{StandUpTo, streams_after}
 use Rattle.archive_fetch.proofs.meetings.begun_in.Goals as goal
 
@@ -11,7 +11,7 @@ returns-in-Ok-open_streams-clause-begun g c pages sure s =
     c.in-Ok.ensures.taken found.front (on.honest_same.0 sure)
     (subst (λ b. StandUpTo b 0 c.in-Ok-Some.place found.front) (sym (on.bytes_same sure)) found.stand) in
     let those_open : c.in-Ok-open_streams.open.items ≡ open_streams c.take_pages.new.streams.items =
-    c.in-Ok-open_streams.ensures ∙ ap open_streams c.as_slice.ensures.value in
+    c.in-Ok-open_streams.ensures.streams ∙ ap open_streams c.as_slice.ensures.value in
     record {
       all = c.take_pages.new.streams.items;
       stand = record {

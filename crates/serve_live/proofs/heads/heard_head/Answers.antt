@@ -1,80 +1,11 @@
-use Rattle.std.proofs.Common.{◌≡◌, ℕ, ◌+◌, ◌-◌, ◌%◌, ◌^◌, Bool, true, false, ◌≤◌, List, ◌++◌, length, take, drop, refl, sym, ◌∙◌, ap, arith, append_assoc, length-take}
-use Rattle.std.specs.Prelude.{bit_xor, not}
-use Rattle.std.proofs.lemmas.Bool.{cond-false, cond-true}
-use Rattle.byteorder.specs.Endian.{little_bytes}
-use Rattle.ogg_page.specs.Page.{Page, page_bytes, page_size}
-use Rattle.ogg_page.specs.LogicalStream.{is_first}
-use Rattle.ogg_page.specs.PageLaws.{length-page_bytes}
-use Rattle.serve_live.specs.Names.{name_in}
-use Rattle.serve_live.specs.Heads.{next_heard}
-use Rattle.ogg_page.specs.Head.{head_size, checksum_in}
-use Rattle.serve_live.specs.Heard.{named_page}
-use Rattle.serve_live.specs.Renaming.{back_of, head_of, names_change, names_of, page_change, retold}
-use Rattle.serve_live.specs.RenamingLaws.{heads_alike, old_names, retold_bytes, wrapped_bytes}
-use Rattle.serve_live.specs.declared.names.StreamName.{StreamName}
+use Rattle.std.proofs.Common.{◌+◌, ◌≤◌, ap, length, arith}
+use Rattle.ogg_page.specs.Head.{head_size}
 use Rattle.serve_live.proofs.heads.heard_head.Goals as goal
 
-not_true : (b : Bool) → not b ≡ true → b ≡ false
-not_true true e = cc
-not_true false e = refl
-
--- the number with which the page is heard
-abbrev number_of : StreamName → Page → ℕ
-number_of stream page = stream.more + (page.sequence - stream.less)
-
--- the bytes of the page as it is heard
-heard_bytes : (names : ℕ → StreamName) (stream : StreamName) (number : ℕ) (page : Page) → is_first page ≡ false → stream ≡ names page.serial →
-    number ≡ number_of stream page % 2 ^ 32 → page_bytes (next_heard names page) ≡ page_bytes (retold stream.name number page)
-heard_bytes names stream number page later is number_is =
-    ap page_bytes (cond-false (is_first page) page (named_page names page) later)
-    ∙ ap (λ (s : StreamName). page_bytes (retold s.name (number_of s page) page)) (sym is)
-    ∙ wrapped_bytes stream.name (number_of stream page) page
-    ∙ ap (λ n. page_bytes (retold stream.name n page)) (sym number_is)
-
-pub returns-then-stream-facts-clause-told : goal.returns-then-stream-facts-clause-told
-returns-then-stream-facts-clause-told c page f =
-    let is = f.is_page in
-    let facts = f.facts in
-    let same = f.bytes in
-    let names = name_in c.args.names.now in
-    let stream = c.name_in-stream.result in
-    let number : ℕ = c.number_heard-number.result in
-    let bytes : List ℕ = c.args.front.bytes in
-    let later : is_first page ≡ false = sym (ap (λ x. x.begins) facts) ∙ not_true c.args.front.facts.begins c.if-not-facts.true in
-    let named : stream ≡ names page.serial = c.name_in-stream.ensures ∙ ap names (ap (λ x. x.serial) facts) in
-    let number_is : number ≡ number_of stream page % 2 ^ 32 =
-    c.number_heard-number.ensures ∙ ap (λ n. (stream.more + (n - stream.less)) % 2 ^ 32) (c.from.ensures ∙ ap (λ x. x.number) facts) in
-    let change : ℕ = page_change page stream.name number in
-    let sum : ℕ = bit_xor (checksum_in page) change in
-    let sum_is : bit_xor c.args.front.facts.checksum c.names_change-change.result ≡ sum =
-    ap (bit_xor c.args.front.facts.checksum)
-    (c.names_change-change.ensures
-    ∙ ap (λ n. names_change n c.args.front.facts.number stream.name number c.args.front.facts.size) (ap (λ x. x.serial) facts)
-    ∙ ap (λ n. names_change page.serial n stream.name number c.args.front.facts.size) (ap (λ x. x.number) facts)
-    ∙ ap (names_change page.serial page.sequence stream.name number) (ap (λ x. x.size) facts))
-    ∙ ap (λ n. bit_xor n change) (ap (λ x. x.checksum) facts) in
-    let k : ℕ = 1 + length page.lacing in
-    let at : head_size page ≡ 26 + k = omega arith in
-    let fits : length (page_bytes page) ≡ page_size page = length-page_bytes page in
-    let long : 26 ≤ length bytes = grind (arith, ap length same, length-take, fits) in
-    let new : List ℕ = names_of stream.name number ++ little_bytes 4 sum in
-    let put : c.put_names.new.header ≡ take 14 bytes ++ (new ++ drop 26 bytes) =
-    c.put_names.ensures ∙ ap (λ n. take 14 bytes ++ ((names_of stream.name number ++ little_bytes 4 n) ++ drop 26 bytes)) sum_is in
-    let old : List ℕ = names_of page.serial page.sequence ++ little_bytes 4 (checksum_in page) in
-    let was : page_bytes page ≡ head_of page ++ (old ++ back_of page) =
-    old_names page ∙ ap (λ l. head_of page ++ l) (sym (append_assoc (names_of page.serial page.sequence) (little_bytes 4 (checksum_in page)) (back_of page))) in
-    let now : page_bytes (next_heard names page) ≡ head_of page ++ (new ++ back_of page) =
-    heard_bytes names stream number page later named number_is
-    ∙ retold_bytes stream.name number page is (omega arith) c.number_heard-number.type_inv
-    ∙ ap (λ l. head_of page ++ l) (sym (append_assoc (names_of stream.name number) (little_bytes 4 sum) (back_of page))) in
-    record {
-      begins = ap (λ x. x.begins) facts;
-      len = ap (λ x. x.len) facts;
-      size = ap (λ x. x.size) facts;
-      bytes = ap (take (head_size page)) put
-          ∙ ap (λ n. take n (take 14 bytes ++ (new ++ drop 26 bytes))) at
-          ∙ heads_alike bytes (head_of page) old new (back_of page) k refl refl refl long
-          (ap (λ n. take n bytes) (sym at) ∙ same ∙ ap (λ n. take n (page_bytes page)) at ∙ ap (take (26 + k)) was)
-          ∙ ap (take (26 + k)) (sym now)
-          ∙ ap (λ n. take n (page_bytes (next_heard names page))) (sym at);
-    }
+pub returns-clause-told : goal.returns-clause-told
+returns-clause-told c page f = record {
+  begins = ap (λ x. x.begins) f.facts;
+  len = ap (λ x. x.len) f.facts;
+  size = ap (λ x. x.size) f.facts;
+  bytes = c.put_heard.ensures.heard page (head_size page) f.is_page f.facts (let e : 26 ≤ 27 + length page.lacing = omega arith in e) f.bytes;
+}

@@ -1,4 +1,4 @@
-use Rattle.std.proofs.Common.{◌≡◌, ◌+◌, ◌-◌, ◌<◌, ◌≤◌, ℕ, List, length, arith, sym, subst, ◌∙◌, refl}
+use Rattle.std.proofs.Common.{arith, sym, subst, ◌∙◌, refl}
 use Rattle.serve_live.specs.Pulling.{AreGiven}
 use Rattle.serve_live.proofs.pages.give_all.Goals as goal
 

@@ -1,4 +1,4 @@
-use Rattle.std.proofs.Common.{◌+◌, ◌≤◌, drop, ◌∙◌, ap, subst, arith}
+use Rattle.std.proofs.Common.{◌+◌, ◌≤◌, drop, arith}
 use Rattle.serve_live.specs.Names.{name_in}
 use Rattle.serve_live.specs.Heads.{IsHeadOf}
 use Rattle.serve_live.specs.Listening.{part_at}

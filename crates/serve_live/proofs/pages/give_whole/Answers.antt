@@ -1,16 +1,15 @@
-use Rattle.std.proofs.Common.{◌≡◌, ◌+◌, ◌-◌, ◌<◌, ◌≤◌, ℕ, List, ◌++◌, Some, length, take, drop, min, sym, ◌∙◌, ap, subst, arith, length-append, length-drop, refl}
-use Rattle.ogg_page.specs.Head.{Stands, head_size}
+use Rattle.std.proofs.Common.{◌≡◌, ◌+◌, ◌-◌, ◌<◌, ◌≤◌, ℕ, List, ◌++◌, Some, length, take, drop, min, sym, ◌∙◌, ap, arith, length-append, refl}
+use Rattle.ogg_page.specs.Head.{head_size}
 use Rattle.ogg_page.specs.Laws.HeadBytes.{head_fits}
-use Rattle.ogg_page.specs.Page.{page_bytes}
+use Rattle.ogg_page.specs.Page.{page_bytes, page_size}
 use Rattle.ogg_page.specs.PageLaws.{length-page_bytes}
-use Rattle.page_heads.specs.Fronts.{IsFrontOf, facts_of}
+use Rattle.page_heads.specs.Fronts.{facts_of}
 use Rattle.page_heads.specs.Laws.{part_of_page}
 use Rattle.serve_live.specs.Names.{name_in}
-use Rattle.serve_live.specs.Heads.{IsHeadOf}
-use Rattle.serve_live.specs.Listening.{part_at}
+use Rattle.serve_live.specs.Heads.{next_heard}
 use Rattle.serve_live.specs.Pulling.{names_kept}
-use Rattle.serve_live.proofs.Ahead.{goes_on, same_part, take_twice}
-use Rattle.serve_live.proofs.NextPage.{is_after, next_of, part_in_front, stands}
+use Rattle.serve_live.proofs.Ahead.{goes_on, put_in_place, same_part}
+use Rattle.serve_live.proofs.NextPage.{heard_size, is_after, next_of, stands}
 use Rattle.serve_live.proofs.pages.give_whole.Goals as goal
 
 one_is : {X : Type 0} (x y : X) → Some x ≡ Some y → x ≡ y
@@ -24,7 +23,6 @@ returns-clause-gives c committed more rest start inside b =
     let names = c.args.names.now in
     let buffer = c.args.buffer.now in
     let kept = names_kept names left in
-    let head = c.heard_head-head.result in
     let some : left.place < length committed = omega (arith, inside, c.requires.room) in
     let h = next_of committed kept left.place left.skip (drop given rest) b.pulled.left_is some in
     let s = stands committed (committed ++ more) more kept left.place left.skip (drop given rest) h refl in
@@ -43,25 +41,24 @@ returns-clause-gives c committed more rest start inside b =
     ∙ ap (λ n. take 282 (drop n bytes)) (let e : left.place + 0 ≡ left.place = omega arith in e) in
     let told : c.facts_of.result ≡ Some (facts_of h.page) = c.facts_of.ensures.told (drop left.place bytes) h.page 282 s fits front in
     let facts_is : facts ≡ facts_of h.page = one_is _ _ (sym c.in_ok-facts.was ∙ told) in
-    let copied : take (head_size h.page) c.copy_from_slice.new.self ≡ take (head_size h.page) (page_bytes h.page) =
-    ap (take (head_size h.page)) (c.copy_from_slice.ensures.after ∙ front)
-    ∙ part_in_front (drop left.place bytes) 0 (head_size h.page) 282 (omega (arith, fits)) (omega (arith, length-drop left.place bytes, inside_all, long))
-    ∙ ap (λ n. take (head_size h.page) (drop n bytes)) (let e : left.place ≡ left.place + 0 = omega arith in e)
-    ∙ part_of_page bytes h.page left.place 0 (head_size h.page) s (omega (arith, length-page_bytes h.page)) in
-    let front_is : IsFrontOf h.page record { bytes = c.copy_from_slice.new.self; facts = facts } =
-    record { is_page = h.is_page; facts = facts_is; bytes = copied } in
-    let is : IsHeadOf (name_in kept) h.page head = subst (λ l. IsHeadOf (name_in l) h.page head) c.kept_names.ensures (c.heard_head-head.ensures.told h.page front_is) in
-    let same = c.heard_head-head.ensures.same in
-    let bounds = c.facts_of.ensures.bounds facts c.in_ok-facts.was in
-    let short : head.len ≤ head.size = omega (arith, same.0, same.1, bounds.2) in
-    let least : 26 ≤ head.len = omega (arith, same.0, bounds.0) in
-    let ends : given + head.size ≤ end = omega (arith, same.1, c.if-facts-end.false, c.requires.room) in
-    let own : length c.split_at.result.0.now ≡ head.len = c.split_at.ensures.front_len in
-    let all : c.copy_on.result ≡ head.len = grind (arith, c.copy_on.ensures.count, own, ap (λ f. f.len) facts_is, same.0, fits, c.requires.room) in
-    let put : c.copy_on.new.buffer ≡ take given buffer ++ (take head.len head.bytes ++ drop (given + head.len) buffer) =
-    c.copy_on.ensures.copied
-    ∙ ap (λ n. take given buffer ++ (take n c.split_at.result.0.now ++ drop (given + n) buffer)) all
-    ∙ ap (λ l. take given buffer ++ (l ++ drop (given + head.len) buffer)) (ap (take head.len) c.split_at.ensures.front ∙ take_twice head.len head.bytes) in
-    goes_on committed more rest names start left c.left_after-after.result head given end buffer c.copy_on.new.buffer b h is c.requires.skip
-    least short ends c.requires.room.1 inside put
-    (is_after left c.left_after-after.result head.begins head.size head.size c.left_after-after.ensures.within c.left_after-after.ensures.behind)
+    let size : ℕ = facts.size in
+    let size_is : size ≡ page_size h.page = ap (λ f. f.size) facts_is in
+    let least : 26 ≤ size = omega (arith, size_is) in
+    let ends : given + size ≤ end = omega (arith, c.if-facts-end.false, c.requires.room) in
+    let parts = c.split_at_mut-page.ensures in
+    let stood : take size (drop given buffer) ≡ take size (page_bytes h.page) =
+    ap (λ n. take size (drop n buffer)) (let e : given ≡ given + 0 = omega arith in e)
+    ∙ same_part bytes buffer left.place given whole 0 size b.read (omega (arith, ends)) room_all inside_all
+    ∙ part_of_page bytes h.page left.place 0 size s (omega (arith, length-page_bytes h.page, size_is)) in
+    let own : List ℕ = page_bytes (next_heard (name_in kept) h.page) in
+    let page : List ℕ = c.put_heard.new.bytes in
+    let first : take size page ≡ take size own =
+    c.put_heard.ensures.heard h.page size h.is_page facts_is least (ap (take size) parts.back ∙ stood)
+    ∙ ap (λ l. take size (page_bytes (next_heard (name_in l) h.page))) c.kept_names.ensures in
+    let put : c.split_at_mut-page.result.0.now ++ page ≡ take given buffer ++ (own ++ drop (given + size) buffer) =
+    put_in_place given size buffer own page (c.split_at_mut-page.result.0.now ++ page) least (heard_size (name_in kept) h.page ∙ sym size_is) first
+    (c.put_heard.ensures.behind ∙ ap (drop 26) parts.back) (ap (λ l. l ++ page) parts.front) in
+    let after = c.left_after-after.ensures in
+    goes_on committed more rest names start left c.left_after-after.result facts.begins given size end buffer (c.split_at_mut-page.result.0.now ++ page)
+    b h (ap (λ f. f.begins) facts_is) size_is c.requires.skip ends c.requires.room.1 inside put
+    (is_after left c.left_after-after.result facts.begins size size after.within after.behind)

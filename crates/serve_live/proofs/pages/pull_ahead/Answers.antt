@@ -1,4 +1,4 @@
-use Rattle.std.proofs.Common.{◌≡◌, ◌+◌, ◌-◌, ◌≤◌, ℕ, List, ◌++◌, length, take, drop, ◌∙◌, ap, arith}
+use Rattle.std.proofs.Common.{◌+◌, ◌≤◌, ◌++◌, length, take, drop, ◌∙◌, ap, arith}
 use Rattle.serve_live.specs.Listening.{part_at}
 use Rattle.serve_live.proofs.Ahead.{was_read}
 use Rattle.serve_live.proofs.pages.pull_ahead.Goals as goal

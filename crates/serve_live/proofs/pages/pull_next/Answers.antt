@@ -1,4 +1,4 @@
-use Rattle.std.proofs.Common.{◌≡◌, ◌≤◌, ℕ, List, ◌++◌, length, ◌∙◌, subst, arith}
+use Rattle.std.proofs.Common.{◌≡◌, ◌∙◌, subst, arith}
 use Rattle.serve_live.specs.Pulling.{ArePulled}
 use Rattle.serve_live.proofs.pages.pull_next.Goals as goal
 

@@ -1,4 +1,4 @@
-use Rattle.std.proofs.Common.{◌≡◌, ◌<◌, ℕ, List, ◌++◌, Result, Ok, Err, length, drop, sym, ◌∙◌, subst}
+use Rattle.std.proofs.Common.{◌≡◌, ◌<◌, Result, Ok, Err, length, drop, sym, ◌∙◌, subst}
 use Rattle.std.specs.Result.{IfOk}
 use Rattle.serve_live.specs.Pulling.{names_kept}
 use Rattle.serve_live.proofs.Ahead.{head_at, head_stays}
