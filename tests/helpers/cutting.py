@@ -5,6 +5,7 @@
     cutting.py parts PROGRAM COUNT      COUNT random divisions of time: the parts together have each packet once
     cutting.py clocks PROGRAM COUNT     the same of archives whose clock stood still, went back or ran ahead, and COUNT pairs
     cutting.py growing PROGRAM          an archive that is recorded, with restarts, while it is cut: parts of the time so far
+    cutting.py filled PROGRAM           links that begin just before a file ends, and files that are full within a commit
     cutting.py odd PROGRAM              times that are missing, torn or wrong, files that are damaged or gone, clocks
     cutting.py damaged PROGRAM          three files of which one is damaged in the middle: it is left out, which is told
     cutting.py again PROGRAM            links that have the serials of links before, with Skeletons and without
@@ -597,6 +598,47 @@ def growing(program):
         assert found == [b"packet %d" % at for at in range(sent)], (sent, len(found), found[:3], found[-3:])
 
 
+def page_of(serial, number, flags=0):
+    body = b"head" if flags & 2 else b"packet %d" % number
+    return page(flags, 960 * number, serial, number, [len(body)], body)
+
+
+def filled(program):
+    """Where a link goes on in the next file is known however short it was open before: it is one link of the cut."""
+    with tempfile.TemporaryDirectory() as folder:
+        # Each file has as much as is recorded at once.
+        count = 2000
+        pages = [page_of(7, 0, 2), *[page_of(7, number) for number in range(1, count)], page_of(7, count, 4)]
+        words = [program, "archive", f"{folder}/full/", "--most-bytes", "2000"]
+        ran = subprocess.run(words, input=b"".join(pages), capture_output=True, timeout=60)
+        assert ran.returncode == 0, ran
+        assert len([name for name in os.listdir(f"{folder}/full") if name.endswith(".ogg")]) > 9, ran.stderr
+        want = [[[7, [b"head", *[b"packet %d" % number for number in range(1, count + 1)]]]]]
+        ran = subprocess.run([program, "cut", f"{folder}/full", "--raw"], capture_output=True, timeout=60)
+        assert ran.returncode == 0 and links_in(ran.stdout) == want, (ran.stderr, len(links_in(ran.stdout)))
+        # The second link begins a moment before the next file.
+        words = [program, "archive", f"{folder}/late/", "--every", "2s"]
+        with open(f"{folder}/err", "wb") as err:
+            recorder = subprocess.Popen(words, stdin=subprocess.PIPE, stderr=err)
+
+        def give(*pages):
+            recorder.stdin.write(b"".join(pages))
+            recorder.stdin.flush()
+
+        time.sleep(2.1 - time.time() % 2)
+        give(page_of(7, 0, 2), page_of(7, 1))
+        time.sleep(1.6)
+        give(page_of(7, 2, 4), page_of(8, 0, 2), page_of(8, 1))
+        time.sleep(0.6)
+        give(page_of(8, 2), page_of(8, 3, 4))
+        recorder.stdin.close()
+        assert recorder.wait(30) == 0
+        assert len([name for name in os.listdir(f"{folder}/late") if name.endswith("-on.ogg")]) == 1, os.listdir(f"{folder}/late")
+        want = [[[7, [b"head", b"packet 1", b"packet 2"]]], [[8, [b"head", b"packet 1", b"packet 2", b"packet 3"]]]]
+        ran = subprocess.run([program, "cut", f"{folder}/late", "--raw"], capture_output=True, timeout=60)
+        assert ran.returncode == 0 and links_in(ran.stdout) == want, (ran.stderr, links_in(ran.stdout))
+
+
 def meeting(program):
     """The whole of two files, a link a line of which says what keeps them apart."""
     one, two, three = (7, [b"first of one", b"more"]), (8, [b"first of two"]), (9, [b"first of three"])
@@ -707,6 +749,8 @@ def main():
         elif sys.argv[1] == "clocks":
             clocks(sys.argv[2], int(sys.argv[3]))
             parts(sys.argv[2], int(sys.argv[3]) // 10, True)
+        elif sys.argv[1] == "filled":
+            filled(sys.argv[2])
         elif sys.argv[1] == "growing":
             growing(sys.argv[2])
         else:

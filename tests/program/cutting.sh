@@ -14,6 +14,7 @@ check "200 random divisions of time" cutting parts 200
 check "times that are missing or wrong, files that are damaged or gone" cutting odd
 check "links that have the serials of links before" cutting again
 check "a file that is damaged in its middle, between sound ones, before them and after them" cutting damaged
+check "links that begin just before a file ends, and files that are full within a commit" cutting filled
 check "clocks that stood still, went back or ran ahead" cutting clocks 400
 check "an archive that is recorded, with restarts, while it is cut" cutting growing
 

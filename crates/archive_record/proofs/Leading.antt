@@ -14,10 +14,7 @@ use Rattle.history.specs.Runs.{AreCommands}
 use Rattle.history.specs.World.{Faulted, Flushed, Held, Kept, Refused, Step, World, disk_after, happens, run}
 use Rattle.ogg_command.specs.declared.command.Command.{Command}
 use Rattle.archive_record.specs.Account.{LeadsTo}
-
--- the newest file has come so far
-abbrev pub in_world : Newest Command → World Command → Newest Command
-in_world file world = record { name = file.name; world = world }
+use Rattle.archive_record.specs.Standing.{in_world}
 
 first_is : {D : Type 0} (step : Step Command) (disk : D) (steps : List (Step Command × D)) → AreCommands ((step, disk) ∷ steps)
     → IsAnswer step × AreCommands steps
@@ -31,7 +28,7 @@ first_is step disk steps are = absurd are
 same_test : (n : ℕ) → (n == n) ≡ true
 same_test n = grind (arith, nat_tests)
 
-at_same : {D : Type 0} (n : ℕ) (disk : D) (disks : ℕ → D) → with_disk n disk disks n ≡ disk
+pub at_same : {D : Type 0} (n : ℕ) (disk : D) (disks : ℕ → D) → with_disk n disk disks n ≡ disk
 at_same n disk disks = ap (λ (b : Bool). if b then disk else disks n) (same_test n)
 
 named_after : (a : Archive Command) (file : Newest Command) (step : Step Command) → a.newest ≡ Some file → names (recorded a step) ≡ names a

@@ -10,6 +10,9 @@ mod Now
 mod Numbers
 mod Known
 mod Left
+mod Looked
 mod Recovered
 mod Retained
 mod Spelled
+mod Standing
+mod Staying

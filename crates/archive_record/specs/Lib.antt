@@ -11,5 +11,6 @@ pub mod Resting
 pub mod Retention
 pub mod Rotating
 pub mod Spelling
+pub mod Standing
 pub mod Stepping
 pub mod Writing

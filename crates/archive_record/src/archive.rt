@@ -21,6 +21,7 @@ use crate::files::BeginFault;
 use crate::newest::Newest;
 use crate::rotation::{Rotation, Rules};
 use archive_folder::Folder;
+use archive_times::Join;
 use disk_model::{Disk, Memory};
 use feed_runner::Runner;
 use file_recorder::Recorder;
@@ -162,6 +163,14 @@ impl<D: Disk + Drop, F: Folder<File = D> + Drop> Archive<D, F> {
         self.tell_time(now, beside);
     }
 
+    /// Where the link that is open in the newest file is joined, if one is and that is known.
+    fn open_join(&self) -> Option<Join> {
+        match &self.newest {
+            Some(newest) => newest.open_join(),
+            None => None,
+        }
+    }
+
     /// A line of times is written, if what is committed says more than the last one.
     fn tell_time<B: Beside>(&mut self, now: u64, beside: &mut B)
         ensures none { self.old.newest ≡ None → (self.new ≡ self.old) × (beside.new ≡ beside.old) }
@@ -211,13 +220,16 @@ impl<D: Disk + Drop, F: Folder<File = D> + Drop> Archive<D, F> {
         }
     }
 
-    /// After a commit a line of times is written, unless one was within the last second.
+    /// After a commit a line of times is written, unless one was within the last second that tells of the open link.
     fn committed<B: Beside>(&mut self, now: u64, beside: &mut B)
         ensures none { self.old.newest ≡ None → (self.new ≡ self.old) × (beside.new ≡ beside.old) }
         ensures rest { self.new ≡ record self.old { rotation = self.new.rotation } }
         ensures times { self.new.rotation ≡ record self.old.rotation { last = self.new.rotation.last; written = self.new.rotation.written } }
     {
-        if self.held() == 0 && !self.is_failed() && self.rotation.is_time_due(now) {
+        if self.held() > 0 || self.is_failed() {
+            return;
+        }
+        if self.rotation.is_time_due(self.open_join(), now) {
             self.tell_time(now, beside);
         }
     }
@@ -318,6 +330,7 @@ impl<D: Disk + Drop, F: Folder<File = D> + Drop> Archive<D, F> {
         let (name, recorder) = self.rotation.begin(goes_on, now, beside)?;
         self.newest = Some(Newest::on(name, recorder));
         let answered = self.begin_again()?;
+        self.committed(now, beside);
         self.rotation.throw_away(now, beside);
         Ok(answered)
     }
@@ -367,8 +380,9 @@ impl<D: Disk + Drop, F: Folder<File = D> + Drop> Archive<D, F> {
         };
         let mut newest = newest;
         let serials = serials_of(self.alloc, &newest.recorder);
-        let (goes_on, ended) = end_held(&mut newest.recorder);
+        // The link goes on in the next file.
         let open_join = newest.open_join();
+        let (goes_on, ended) = end_held(&mut newest.recorder);
         let Newest {
             name,
             recorder,

@@ -205,6 +205,10 @@ impl<F: Folder> Files<F> {
         ensures files { self.new.files ≡ self.old.files }
         ensures next { self.new.next ≡ self.old.next }
         ensures names { F.is_honest self.old.folder → F.names self.new.folder ≡ F.names self.old.folder }
+        // The file that is handed out isn't with the folder, and every other is where it was.
+        ensures outs { F.is_honest self.old.folder → (n : ℕ) → self.new.out ≡ Some n → F.file self.new.folder n ≡ Out }
+        ensures places { F.is_honest self.old.folder → (n : ℕ) (disk : F.File) → F.file self.new.folder n ≡ Kept disk
+            → F.file self.old.folder n ≡ Kept disk }
         // An event of the law leads there, whatever the answer.
         ensures leads { F.is_honest self.old.folder → (a : Account CommandOf) (disks : ℕ → F.File)
             → F.names self.old.folder ≡ names a

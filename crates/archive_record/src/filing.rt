@@ -1,15 +1,18 @@
 //! How a file is begun, opened and ended.
-ghost use Rattle.std.specs.Prelude.{◌≡◌, ◌≢◌, ◌<◌, ◌++◌, ◌∷◌, [], ℕ, IfOk, IfErr, IfSome, OnOk, OnErr, None, Some, Ok, Err, true, false};
+ghost use Rattle.std.specs.Prelude.{◌≡◌, ◌≢◌, ◌<◌, ◌++◌, ◌∷◌, [], Bool, List, ℕ, IfOk, IfErr, IfSome, OnOk, OnErr, None, Some, Ok, Err, true, false};
 ghost use Rattle.disk_model.specs.Image.{settled};
-ghost use Rattle.archive_folder.specs.Names.{made, synced};
+ghost use Rattle.archive_folder.specs.Names.{Kept, made, synced};
 ghost use Rattle.archive_folder.specs.declared.names.Fate.TheVariants.{Stays};
-ghost use Rattle.archive_history.specs.Archive.{Archive as Account, Newest as NewestOf, names};
+ghost use Rattle.archive_history.specs.Archive.{Archive as Account, Content, Known, Newest as NewestOf, Whole, names, recorded};
+ghost use Rattle.archive_history.specs.History.{Resumes, with_disk};
+ghost use Rattle.history.specs.World.{Opened, happens, start};
 ghost use Rattle.ogg_command.specs.declared.command.Command.{Command as CommandOf};
 ghost use Rattle.file_recorder.specs.Recorder.{IsIn, committed, staged};
 ghost use Rattle.archive_record.specs.Account.{LeadsTo};
 ghost use Rattle.archive_record.specs.Files.{highest};
-ghost use Rattle.archive_record.specs.Filing.{HasExactly, IsNew};
+ghost use Rattle.archive_record.specs.Filing.{HasExactly, IsNew, unwritten};
 ghost use Rattle.archive_record.specs.Resting.{IsAtRest};
+ghost use Rattle.archive_record.specs.Standing.{AreAt, Comes, IsBegun, IsLetGo, IsWritten, LastIsLast, Reaches, in_world, with_file, with_newest};
 
 use crate::archive::ArchiveFault;
 use crate::damage::Damage;
@@ -69,7 +72,26 @@ pub(crate) fn open_last<D: Disk + Drop, F: Folder<File = D>>(
     ensures newest { IfOk result (λ (file, r). (front : _) × (files.old.files ≡ front ++ file ∷ [])) }
     ensures same { OnErr result (files.new.out ≡ files.old.out) }
     ensures files { files.new.files ≡ files.old.files }
+    // Events of the law lead on: the account's last file is the newest again, and is opened in its world.
+    ensures leads { IfOk result (λ (file, r). F.is_honest files.old.folder → (a b : Account CommandOf) (disks : ℕ → D)
+        → AreAt F.names F.file D.Disk files.old a disks
+        → (is : Resumes a b) → is.newest.name.number ≡ file.number → is.newest.world.is_open ≡ false
+        → (found : Bool)
+        × IsWritten D.Disk (recorded b (Opened found)) (in_world is.newest (happens is.newest.world (Opened found))) file.number r
+        (with_disk file.number r.file.disk disks)
+        × Comes F.names F.moment F.left_since F.file D.Disk files.old a disks
+        files.new (recorded b (Opened found)) (with_disk file.number r.file.disk disks)) }
+    // What isn't opened is set aside as it is, and may be opened later.
+    ensures unopened { OnErr result (F.is_honest files.old.folder → (a : Account CommandOf) (disks : ℕ → D)
+        → AreAt F.names F.file D.Disk files.old a disks → a.newest ≡ None → LastIsLast files.old.files a
+        → (b : Account CommandOf) × (after : ℕ → D) × (b.newest ≡ None) × LastIsLast files.new.files b
+        × Comes F.names F.moment F.left_since F.file D.Disk files.old a disks files.new b after) }
 {
+    // For the proof alone.
+    calls_are_events::<Recorded>();
+    calls_lead_on::<D, F, Recorded>();
+    events_lead_on::<D, F, Recorded>();
+    images_show_one_recording();
     if !files.is_free() {
         return Err(Damage::Unreadable);
     }
@@ -145,7 +167,20 @@ pub(crate) fn end_file<D: Disk + Drop, F: Folder<File = D>>(
     ensures names { F.is_honest files.old.folder → F.names files.new.folder ≡ F.names files.old.folder }
     ensures others { F.is_honest files.old.folder
         → (n : ℕ) → n ≢ name.number → F.file files.new.folder n ≡ F.file files.old.folder n }
+    // Events of the law lead on: the file is sealed and has ended, or else is set aside as it stands. Its disk is with the
+    // folder.
+    ensures leads { F.is_honest files.old.folder → (a : Account CommandOf) (file : NewestOf CommandOf) (disks : ℕ → D)
+        → F.names files.old.folder ≡ names a → IsWritten D.Disk a file name.number recorder disks
+        → (content : Content CommandOf) × (disk : D) × IsLetGo result file.world content
+        × (F.file files.new.folder name.number ≡ Kept disk) × D.is_honest disk
+        × Reaches F.names F.moment F.left_since D.Disk a files.old.folder disks
+        (with_file a file.name content) files.new.folder (with_disk name.number disk disks) }
 {
+    // For the proof alone.
+    calls_are_events::<Recorded>();
+    calls_lead_on::<D, F, Recorded>();
+    events_lead_on::<D, F, Recorded>();
+    images_show_one_recording();
     if recorder.is_failed() || recorder.held() > 0 {
         files.give_back(name.number, recorder.give_back());
         return false;
@@ -180,6 +215,12 @@ pub(crate) fn end_group<D: Disk + Drop, F: Folder<File = D>>(
         → disks file.name.number ≡ recorder.file.disk → F.names files.old.folder ≡ names a
         → (b : Account CommandOf) × (after : ℕ → D) × (b.newest ≡ None)
         × LeadsTo F.names F.moment F.left_since D.Disk a files.old.folder disks b files.new.folder after) }
+    // It has ended there with all that was kept. Its disk is with the folder.
+    ensures ends { OnOk result (F.is_honest files.old.folder → (a : Account CommandOf) (file : NewestOf CommandOf) (disks : ℕ → D)
+        → F.names files.old.folder ≡ names a → IsWritten D.Disk a file name.number recorder disks
+        → (bytes : List ℕ) × (disk : D) × (F.file files.new.folder name.number ≡ Kept disk) × D.is_honest disk
+        × Reaches F.names F.moment F.left_since D.Disk a files.old.folder disks
+        (with_file a file.name (Whole bytes (file.world.acknowledged ++ file.world.held))) files.new.folder (with_disk name.number disk disks)) }
     ensures failed { IfErr result (λ back. back.file.failed ≡ true) }
     ensures front { D.is_honest recorder.file.disk → IfErr result (λ back. committed D.state back ≡ committed D.state recorder) }
     ensures none { OnOk result (files.new.out ≡ None) }
@@ -194,6 +235,7 @@ pub(crate) fn end_group<D: Disk + Drop, F: Folder<File = D>>(
     calls_are_events::<Recorded>();
     calls_lead_on::<D, F, Recorded>();
     events_lead_on::<D, F, Recorded>();
+    images_show_one_recording();
     if recorder.is_failed() {
         return Err(recorder);
     }
@@ -238,8 +280,23 @@ pub(crate) fn first_recorder<D: Disk + Drop, F: Folder<File = D>>(
     ensures same { IfOk result (λ recorder. files.new ≡ files.old) }
     ensures none { OnErr result (files.new.out ≡ None) }
     ensures memory { result ≢ Err ArchiveFault.Numbers }
+    // Events of the law lead on: the file is opened, with nothing in it, or else is set aside, and its disk is with the folder.
+    ensures leads { IfOk result (λ recorder. (a : Account CommandOf) (file : NewestOf CommandOf) (disks : ℕ → D)
+        → F.names files.old.folder ≡ names a → IsBegun D.Disk a file name.number disk disks
+        → IsWritten D.Disk (with_newest a (in_world file unwritten)) (in_world file unwritten) name.number recorder
+        (with_disk name.number recorder.file.disk disks)
+        × Reaches F.names F.moment F.left_since D.Disk a files.old.folder disks
+        (with_newest a (in_world file unwritten)) files.new.folder (with_disk name.number recorder.file.disk disks)) }
+    ensures unopened { OnErr result (F.is_honest files.old.folder → (a : Account CommandOf) (file : NewestOf CommandOf) (disks : ℕ → D)
+        → F.names files.old.folder ≡ names a → IsBegun D.Disk a file name.number disk disks
+        → (now : D) × (F.file files.new.folder name.number ≡ Kept now) × D.is_honest now
+        × Reaches F.names F.moment F.left_since D.Disk a files.old.folder disks
+        (with_file a file.name (Known start)) files.new.folder (with_disk name.number now disks)) }
 {
     // For the proof alone.
+    calls_are_events::<Recorded>();
+    calls_lead_on::<D, F, Recorded>();
+    events_lead_on::<D, F, Recorded>();
     images_show_one_recording();
     match Recorder::open_empty(alloc, disk) {
         Ok(recorder) => {

@@ -1,10 +1,18 @@
 //! Which file can be gone on with.
-ghost use Rattle.std.specs.Prelude.{◌≡◌, ◌⊎◌, ℕ, IfOk, IfErr, take, false};
+ghost use Rattle.std.specs.Prelude.{◌≡◌, ◌⊎◌, Bool, ℕ, IfOk, IfErr, take, false};
+ghost use Rattle.chain_rules.specs.Recording.{add};
 ghost use Rattle.disk_model.specs.Frame.{Frame};
-ghost use Rattle.file_recorder.specs.Recorder.{committed};
+ghost use Rattle.disk_model.specs.Image.{IsImage};
+ghost use Rattle.disk_model.specs.Leaving.{LeavesOnly};
+ghost use Rattle.file_recorder.specs.Recorder.{IsIn, IsRecorderStep, committed};
+ghost use Rattle.file_recorder.specs.Recovery.{Shows};
 ghost use Rattle.file_recorder.specs.Taking.{HoldsChain};
 ghost use Rattle.gate_file.specs.Gate.{EndsAt};
 ghost use Rattle.gate_file.specs.declared.fault.OpenFault.{OpenFault as OpenFaultOf};
+ghost use Rattle.history.specs.History.{StandsIn};
+ghost use Rattle.history.specs.World.{Faulted, Looked, Opened, Opening, World, happens};
+ghost use Rattle.link_chain.specs.Recording.{Recording};
+ghost use Rattle.ogg_command.specs.declared.command.Command.{Command as CommandOf};
 ghost use Rattle.record_actions.specs.Foreign.{IsForeign, front_of};
 ghost use Rattle.record_actions.specs.Tail.{IsSoundAt};
 ghost use Rattle.archive_record.specs.Opening.{CanGoOn, IsLeftBy};
@@ -33,6 +41,14 @@ pub fn open_sound<D: Disk + Drop>(alloc: Global, disk: D) -> Result<Recorder<D>,
     ensures good { IfOk result (λ r. D.is_honest disk → CanGoOn (D.state disk).contents) }
     ensures each { IfErr result (λ (why, back). D.is_honest disk → CanGoOn (D.state disk).contents
         → (why ≡ Damage.Open OpenFaultOf.Memory) ⊎ (why ≡ Damage.Open OpenFaultOf.Disk)) }
+
+    // It is a step of each history that led to the disk, with all looks before: an opening, or a look at what isn't opened.
+    ensures step { IfOk result (λ r. (first : Recording) (w : World CommandOf) → StandsIn Shows add first w (D.state disk)
+        → w.is_open ≡ false → D.is_honest disk → (found : Bool)
+        × IsRecorderStep D.Disk first w (Opened found) disk r.file.disk
+        × IsIn D.Disk first (happens w (Opened found)) r) }
+    ensures step_err { IfErr result (λ (why, back). (first : Recording) (w : World CommandOf) → D.is_honest disk
+        → IsRecorderStep D.Disk first w Looked disk back) }
 {
     // For the proof alone.
     committed_bytes_are_unique();
@@ -50,6 +66,9 @@ pub fn open_sound<D: Disk + Drop>(alloc: Global, disk: D) -> Result<Recorder<D>,
 fn with_own<D: Disk + Drop>(disk: D) -> Result<D, (Damage, D)>
     ensures own { IfOk result (λ same. D.is_honest disk → (D.state same ≡ D.state disk)
         × (IsForeign (front_of (D.state disk).contents) → ⊥)) }
+    // Every image since the call began is one of those at its start.
+    ensures any_moment { IfOk result (λ same. D.is_honest disk → LeavesOnly D.Disk disk same (IsImage (D.state disk))) }
+    ensures any_moment_err { IfErr result (λ (why, back). D.is_honest disk → LeavesOnly D.Disk disk back (IsImage (D.state disk))) }
     ensures frame { IfOk result (λ same. Frame D.Disk disk same ⊥) }
     ensures left { IfErr result (λ (why, back). IsLeftBy D.Disk disk why back) }
 {
@@ -65,6 +84,9 @@ fn with_own<D: Disk + Drop>(disk: D) -> Result<D, (Damage, D)>
 fn with_sound_tail<D: Disk + Drop>(alloc: Global, disk: D) -> Result<D, (Damage, D)>
     ensures same { IfOk result (λ same. D.is_honest disk → (D.state same).contents ≡ (D.state disk).contents) }
     ensures sound { IfOk result (λ same. D.is_honest disk → (end : ℕ) × IsSoundAt (D.state disk).contents end) }
+    // Every image since the call began is one of those at its start.
+    ensures any_moment { IfOk result (λ same. D.is_honest disk → LeavesOnly D.Disk disk same (IsImage (D.state disk))) }
+    ensures any_moment_err { IfErr result (λ (why, back). D.is_honest disk → LeavesOnly D.Disk disk back (IsImage (D.state disk))) }
     ensures frame { IfOk result (λ same. Frame D.Disk disk same ⊥) }
     ensures left { IfErr result (λ (why, back). IsLeftBy D.Disk disk why back) }
 {
@@ -83,6 +105,12 @@ fn recorder_on<D: Disk + Drop>(alloc: Global, disk: D) -> Result<Recorder<D>, (D
     ensures ends { IfOk result (λ r. D.is_honest disk → EndsAt (D.state disk).contents r.file.end
         × (committed D.state r ≡ take r.file.end (D.state disk).contents)) }
     ensures holds { IfOk result (λ r. D.is_honest disk → HoldsChain (committed D.state r) r.chain) }
+    ensures step { IfOk result (λ r. (first : Recording) (w : World CommandOf) → StandsIn Shows add first w (D.state disk)
+        → w.is_open ≡ false → D.is_honest disk → (found : Bool)
+        × IsRecorderStep D.Disk first w (Opened found) disk r.file.disk
+        × IsIn D.Disk first (happens w (Opened found)) r) }
+    ensures step_err { IfErr result (λ (why, back). (first : Recording) (w : World CommandOf) → w.is_open ≡ false
+        → D.is_honest disk → IsRecorderStep D.Disk first w (Faulted Opening) disk back) }
     ensures left { IfErr result (λ (why, back). IsLeftBy D.Disk disk why back) }
 {
     match Recorder::open(alloc, disk) {

@@ -1,7 +1,10 @@
 //! Which files are thrown away, and that they are.
 
-ghost use Rattle.std.specs.Prelude.{◌≡◌, ◌↔◌, ◌+◌, ◌<◌, ◌++◌, ◌∷◌, [], IsTrue, List, OnOk, length, None, false, true};
+ghost use Rattle.std.specs.Prelude.{◌≡◌, ◌↔◌, ◌+◌, ◌<◌, ◌++◌, ◌∷◌, [], ℕ, IsTrue, List, OnOk, length, None, false, true};
 ghost use Rattle.archive_folder.specs.declared.names.FileName.{FileName as FileNameOf};
+ghost use Rattle.archive_history.specs.Archive.{Archive as Account, names};
+ghost use Rattle.ogg_command.specs.declared.command.Command.{Command as CommandOf};
+ghost use Rattle.archive_record.specs.Account.{IsHandedOut, LeadsTo, StaysWritten};
 ghost use Rattle.archive_record.specs.Retention.{IsLeftOf, MayGo, how_many, throws};
 
 use crate::archive::ArchiveFault;
@@ -59,6 +62,12 @@ fn may_go(files: &[FileName], number: u64) -> bool
 
 /// What stands under a name. A file that can't be looked at is never thrown away.
 fn look<F: Folder>(files: &mut Files<F>, name: FileName, last: u64) -> Held
+    // An event of the law leads there.
+    ensures leads { F.is_honest files.old.folder → (a : Account CommandOf) (disks : ℕ → F.File)
+        → F.names files.old.folder ≡ names a
+        → LeadsTo F.names F.moment F.left_since F.File.Disk a files.old.folder disks a files.new.folder disks }
+    ensures names { F.is_honest files.old.folder → F.names files.new.folder ≡ F.names files.old.folder }
+    ensures honest { F.is_honest files.old.folder ↔ F.is_honest files.new.folder }
     ensures files { files.new.files ≡ files.old.files }
     ensures out { files.new.out ≡ files.old.out }
 {
@@ -103,6 +112,11 @@ impl<D: Disk + Drop, F: Folder<File = D> + Drop> Rotation<F> {
 
     /// A file was begun: the one before it has ended.
     pub(crate) fn look_at_newest(&mut self, now: u64) -> Result<(), ArchiveFault>
+        // Events of the law lead there: the file that is written stays so.
+        ensures leads { F.is_honest self.old.files.folder → (a : Account CommandOf) (disks : ℕ → D)
+            → IsHandedOut self.old.files.out a → F.names self.old.files.folder ≡ names a
+            → StaysWritten F.names F.moment F.left_since D.Disk a self.old.files.folder disks self.new.files.folder }
+        ensures honest { F.is_honest self.old.files.folder ↔ F.is_honest self.new.files.folder }
         ensures paired { OnOk result (throws self.old.rules.keeping ≡ true
             → length self.old.held.items + 1 ≡ length self.old.files.files
             → length self.new.held.items ≡ length self.new.files.files) }
@@ -136,6 +150,11 @@ impl<D: Disk + Drop, F: Folder<File = D> + Drop> Rotation<F> {
     /// Throws away what is to be thrown away at this time in milliseconds since 1970, oldest first, and tells it. Call it
     /// when the folder was opened, and when what begins a new file is kept.
     pub fn throw_away<B: Beside>(&mut self, now: u64, beside: &mut B)
+        // Events of the law lead there: the file that is written stays so.
+        ensures leads { F.is_honest self.old.files.folder → (a : Account CommandOf) (disks : ℕ → D)
+            → IsHandedOut self.old.files.out a → F.names self.old.files.folder ≡ names a
+            → StaysWritten F.names F.moment F.left_since D.Disk a self.old.files.folder disks self.new.files.folder }
+        ensures honest { F.is_honest self.old.files.folder ↔ F.is_honest self.new.files.folder }
         ensures left { IsLeftOf self.old.files.files self.new.files.files }
         ensures paired { length self.old.held.items ≡ length self.old.files.files
             → length self.new.held.items ≡ length self.new.files.files }
@@ -161,6 +180,11 @@ impl<D: Disk + Drop, F: Folder<File = D> + Drop> Rotation<F> {
     /// If a call has failed as no room is left, and only so many bytes are kept, the oldest file goes that may. Returns
     /// whether one did. The file that is handed out is given back first.
     pub fn make_room<B: Beside>(&mut self, beside: &mut B) -> bool
+        // Events of the law lead there: the file that is written stays so.
+        ensures leads { F.is_honest self.old.files.folder → (a : Account CommandOf) (disks : ℕ → D)
+            → IsHandedOut self.old.files.out a → F.names self.old.files.folder ≡ names a
+            → StaysWritten F.names F.moment F.left_since D.Disk a self.old.files.folder disks self.new.files.folder }
+        ensures honest { F.is_honest self.old.files.folder ↔ F.is_honest self.new.files.folder }
         ensures bound { self.old.rules.keeping.bytes ≡ None → (result ≡ false) × (self.new ≡ self.old) × (beside.new ≡ beside.old) }
         ensures left { IsLeftOf self.old.files.files self.new.files.files }
         ensures paired { length self.old.held.items ≡ length self.old.files.files
@@ -186,6 +210,11 @@ impl<D: Disk + Drop, F: Folder<File = D> + Drop> Rotation<F> {
     /// Throws a file away, and returns whether it did: not if it has a mark by now, if another file has its number, or if
     /// it is the newest.
     fn throw_one<B: Beside>(&mut self, going: Going, beside: &mut B) -> bool
+        // Events of the law lead there: the file that is written stays so.
+        ensures leads { F.is_honest self.old.files.folder → (a : Account CommandOf) (disks : ℕ → D)
+            → IsHandedOut self.old.files.out a → F.names self.old.files.folder ≡ names a
+            → StaysWritten F.names F.moment F.left_since D.Disk a self.old.files.folder disks self.new.files.folder }
+        ensures honest { F.is_honest self.old.files.folder ↔ F.is_honest self.new.files.folder }
         ensures left { IsLeftOf self.old.files.files self.new.files.files }
         // What is noted of the files goes with them.
         ensures paired { length self.old.held.items ≡ length self.old.files.files

@@ -1,8 +1,13 @@
 //! The files of a folder, begun and ended in turn: the next one is begun when the newest is over, and old ones go.
-ghost use Rattle.std.specs.Prelude.{◌≡◌, ◌<◌, [], ◌/◌, ◌⊎◌, ◌↔◌, ◌++◌, IfOk, IfErr, IfSome, IsTrue, OnOk, OnErr, None, Some, true, false};
+ghost use Rattle.std.specs.Prelude.{◌≡◌, ◌<◌, [], ◌/◌, ◌⊎◌, ◌↔◌, ◌++◌, ℕ, IfOk, IfErr, IfSome, IsTrue, OnOk, OnErr, None, Some, true, false};
 ghost use Rattle.disk_model.specs.Image.{settled};
 ghost use Rattle.archive_names.specs.Plan.{IsOver};
-ghost use Rattle.file_recorder.specs.Recorder.{committed, staged};
+ghost use Rattle.archive_times.specs.Asked.{IsDue, IsUntold};
+ghost use Rattle.archive_folder.specs.declared.names.Fate.TheVariants.{Stays};
+ghost use Rattle.archive_history.specs.Archive.{Archive as Account, Newest as NewestOf, names};
+ghost use Rattle.file_recorder.specs.Recorder.{IsIn, committed, staged};
+ghost use Rattle.ogg_command.specs.declared.command.Command.{Command as CommandOf};
+ghost use Rattle.archive_record.specs.Account.{WritesNew, WritesNone};
 ghost use Rattle.archive_record.specs.Files.{AllKept};
 ghost use Rattle.archive_record.specs.Filing.{HasExactly, IsNew};
 ghost use Rattle.archive_record.specs.Resting.{IsAtRest};
@@ -17,7 +22,7 @@ use crate::filing::{Left, end_file, end_group, first_recorder, give_back, open_l
 use crate::naming::name_of;
 use archive_folder::{FileName, Folder};
 use archive_names::{Held, Keeping, Limits, is_over};
-use archive_times::{Join, Line, is_due};
+use archive_times::{Join, Line, is_due, is_untold};
 use disk_model::{Disk, DiskFault};
 use file_recorder::Recorder;
 use gate_file::OpenFault;
@@ -163,6 +168,12 @@ impl<D: Disk + Drop, F: Folder<File = D> + Drop> Rotation<F> {
         goes_on: bool,
         beside: &mut B,
     ) -> Result<(FileName, D), ArchiveFault>
+        // Events of the law lead there: files go for it, it is made, and its name stays.
+        ensures leads { IfOk result (λ (file, disk). F.is_honest self.old.files.folder → (a : Account CommandOf) (disks : ℕ → D)
+            → a.newest ≡ None → F.names self.old.files.folder ≡ names a
+            → WritesNew F.names F.moment F.left_since D.Disk a self.old.files.folder disks file.number disk self.new.files.folder) }
+        ensures out { IfOk result (λ (file, disk). self.new.files.out ≡ Some file.number) }
+        ensures honest { F.is_honest self.old.files.folder ↔ F.is_honest self.new.files.folder }
         ensures fresh { IfOk result (λ (file, disk). D.is_honest disk → D.state disk ≡ settled []) }
         ensures rules { self.new.rules ≡ self.old.rules }
     {
@@ -271,6 +282,12 @@ impl<D: Disk + Drop, F: Folder<File = D> + Drop> Rotation<F> {
         // A file that has ended has what was committed and what waited, whatever stops, and nothing else.
         ensures ended { OnOk result (F.is_honest self.old.files.folder → D.is_honest recorder.file.disk
             → HasExactly D.Disk (F.file self.new.files.folder) name.number (committed D.state recorder ++ staged D.state recorder)) }
+        // Events of the law lead there: what waited is kept, the file is sealed, it has ended, and it is given back.
+        ensures leads { OnOk result (F.is_honest self.old.files.folder → D.is_honest recorder.file.disk
+            → (a : Account CommandOf) (file : NewestOf CommandOf) (disks : ℕ → D)
+            → a.newest ≡ Some file → file.name.fate ≡ Stays → IsIn D.Disk [] file.world recorder
+            → disks file.name.number ≡ recorder.file.disk → F.names self.old.files.folder ≡ names a
+            → WritesNone F.names F.moment F.left_since D.Disk a self.old.files.folder disks self.new.files.folder) }
         ensures free { OnOk result (self.new.files.out ≡ None) }
         ensures rules { self.new.rules ≡ self.old.rules }
         ensures same { OnErr result (self.new ≡ self.old) }
@@ -347,9 +364,11 @@ impl<D: Disk + Drop, F: Folder<File = D> + Drop> Rotation<F> {
         self.last = beside.opened(name, committed);
     }
 
-    /// Whether the last line of times is a second old, so that a commit is told.
-    pub fn is_time_due(&self, now: u64) -> bool {
-        is_due(self.written, now)
+    /// Whether a commit is told: the last line of times is a second old, or none tells yet of the link that is open.
+    pub fn is_time_due(&self, join: Option<Join>, now: u64) -> bool
+        ensures { IsTrue result ↔ (IsDue self.now.written now ⊎ IsUntold self.now.last join) }
+    {
+        is_due(self.written, now) || is_untold(self.last, join)
     }
 
     /// A line of times is written, if the bytes that are committed say more than the last one. It says where the link is

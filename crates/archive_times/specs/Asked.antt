@@ -68,3 +68,9 @@ line_after last offset now join = record { offset = offset; time = time_after la
 abbrev pub IsDue : Option ℕ → ℕ → Type 0
 IsDue None now = ⊤
 IsDue (Some written) now = 1000 ≤ abs_diff written now
+
+-- no line tells yet of the link that is open
+abbrev pub IsUntold : Option Line → Option Join → Type 0
+IsUntold last None = ⊥
+IsUntold None (Some join) = ⊤
+IsUntold (Some last) (Some join) = last.offset < join.begun

@@ -1,10 +1,10 @@
 //! What the lines say of a time, and when one is written.
 ghost use Rattle.std.specs.Prelude.{◌≡◌, ℕ, List, None, ◌↔◌, IsTrue};
-ghost use Rattle.archive_times.specs.Asked.{IsDue, line_at};
+ghost use Rattle.archive_times.specs.Asked.{IsDue, IsUntold, line_at};
 ghost use Rattle.archive_times.specs.Times.{AreLinesOf};
 ghost use Rattle.archive_times.specs.declared.line.Line.{Line as LineOf};
 
-use crate::line::Line;
+use crate::line::{Join, Line};
 use crate::reading::next_line;
 
 /// Whether a line is to be written, by what the clock said at the last one and what it says now, in milliseconds.
@@ -14,6 +14,18 @@ pub fn is_due(written: Option<u64>, now: u64) -> bool
     match written {
         Some(written) => written.abs_diff(now) >= 1000,
         None => true,
+    }
+}
+
+/// Whether a line is to be written since none tells yet of the link that is open, by the last line and by where the link is
+/// joined.
+pub fn is_untold(last: Option<Line>, join: Option<Join>) -> bool
+    ensures { IsTrue result ↔ IsUntold last join }
+{
+    match (last, join) {
+        (_, None) => false,
+        (None, Some(_)) => true,
+        (Some(last), Some(join)) => last.offset < join.begun,
     }
 }
 

@@ -17,7 +17,7 @@ mod laws;
 mod line;
 mod reading;
 
-pub use asking::{is_due, line_at};
+pub use asking::{is_due, is_untold, line_at};
 pub use laws::{lines_are_known_by_their_text, the_place_of_a_time};
 pub use line::{Join, LONGEST_LINE, Line};
 pub use reading::{after_line_feed, last_line, next_line, number_at_front};

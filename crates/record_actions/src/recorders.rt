@@ -1,7 +1,8 @@
 //! Recorders on files: they are opened, and sealed.
 ghost use Rattle.std.specs.Prelude.{◌≡◌, ◌≢◌, ◌↔◌, ◌⊎◌, ◌<◌, IfOk, IfErr, IsTrue, OnErr, Ok, Err, None, Some, true, false, codes, drop};
 ghost use Rattle.disk_model.specs.Fault.{HasCause};
-ghost use Rattle.disk_model.specs.Image.{IsSettled};
+ghost use Rattle.disk_model.specs.Image.{IsImage, IsSettled};
+ghost use Rattle.disk_model.specs.Leaving.{LeavesOnly};
 ghost use Rattle.file_recorder.specs.Recorder.{committed};
 ghost use Rattle.gate_file.specs.declared.fault.OpenFault.{OpenFault as OpenFaultOf};
 ghost use Rattle.record_actions.specs.Foreign.{IsForeign, front_of};
@@ -131,6 +132,8 @@ fn own<D: Disk + Drop>(mut disk: D) -> Result<D, (Fault, D)>
 pub fn is_foreign<D: Disk>(disk: &mut D) -> Result<bool, DiskFault>
     ensures told { IfOk result (λ found. D.is_honest disk.old → IsTrue found ↔ IsForeign (front_of (D.state disk.old).contents)) }
     ensures same { D.is_honest disk.old → D.state disk.new ≡ D.state disk.old }
+    // Every image since the call began is one of those at its start.
+    ensures any_moment { D.is_honest disk.old → LeavesOnly D.Disk disk.old disk.new (IsImage (D.state disk.old)) }
     ensures honest { D.is_honest disk.old ↔ D.is_honest disk.new }
     ensures cause { HasCause (D.failures disk.old) (D.failures disk.new) result }
 {

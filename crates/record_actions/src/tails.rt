@@ -1,6 +1,8 @@
 //! What follows a file's pages, where no stop has left it.
 ghost use Rattle.std.specs.Prelude.{◌≡◌, ◌+◌, ◌^◌, ◌<◌, IfOk, IfErr, IfSome, length, drop};
 ghost use Rattle.disk_model.specs.Frame.{Frame};
+ghost use Rattle.disk_model.specs.Image.{IsImage};
+ghost use Rattle.disk_model.specs.Leaving.{LeavesOnly};
 ghost use Rattle.record_actions.specs.Tail.{HasTail, IsTailOf, IsUnfound};
 
 use disk_model::{Disk, DiskFault};
@@ -27,6 +29,9 @@ pub fn find_tail<D: Disk + Drop>(
     ensures same { IfOk result (λ (same, tail). D.is_honest disk → (D.state same).contents ≡ (D.state disk).contents) }
     ensures found { IfOk result (λ (same, tail). D.is_honest disk → HasTail (D.state disk).contents tail) }
     ensures short { IfOk result (λ (same, tail). IfSome tail (λ tail. tail.offset + tail.bytes < 2 ^ 63)) }
+    // Every image since the call began is one of those at its start.
+    ensures any_moment { IfOk result (λ (same, tail). D.is_honest disk → LeavesOnly D.Disk disk same (IsImage (D.state disk))) }
+    ensures any_moment_err { IfErr result (λ (fault, back). D.is_honest disk → LeavesOnly D.Disk disk back (IsImage (D.state disk))) }
     ensures frame { IfOk result (λ (same, tail). Frame D.Disk disk same ⊥) }
     ensures unfound { IfErr result (λ (fault, back). IsUnfound D.Disk disk fault back) }
 {
@@ -49,6 +54,8 @@ fn unless_sound<D: Disk + Drop>(disk: D, tail: Tail) -> Result<(D, Option<Tail>)
     ensures same { IfOk result (λ (same, tail). D.is_honest disk → D.state same ≡ D.state disk) }
     ensures found { IfOk result (λ (same, tail). D.is_honest disk → HasTail (D.state disk).contents tail) }
     ensures short { IfOk result (λ (same, tail). IfSome tail (λ tail. tail.offset + tail.bytes < 2 ^ 63)) }
+    ensures any_moment { IfOk result (λ (same, tail). D.is_honest disk → LeavesOnly D.Disk disk same (IsImage (D.state disk))) }
+    ensures any_moment_err { IfErr result (λ (fault, back). D.is_honest disk → LeavesOnly D.Disk disk back (IsImage (D.state disk))) }
     ensures frame { IfOk result (λ (same, tail). Frame D.Disk disk same ⊥) }
     ensures unfound { IfErr result (λ (fault, back). IsUnfound D.Disk disk fault back) }
 {

@@ -12,6 +12,7 @@ use gate_file::OpenFault;
 use import_record::{Answered, RecordFault};
 use link_chain::{MOST_LINKS, StreamState, is_open};
 use serve_hub::Hub;
+use serve_live::open_streams;
 use station::Done;
 use station_hub::LiveHub;
 use std::alloc::Global;
@@ -80,15 +81,6 @@ fn live_over<D: Disk + Drop>(alloc: Global, hub: Hub<D>) -> Result<LiveHub<D>, A
 /// The serials that a file has.
 fn serials_of<D: Disk>(alloc: Global, hub: &Hub<D>) -> Result<Vec<u32>, Memory> {
     hub.serials().to_vec(alloc)
-}
-
-/// The streams that haven't ended.
-fn open_streams(alloc: Global, streams: &[StreamState]) -> Result<Vec<StreamState>, Memory> {
-    streams
-        .iter()
-        .copied()
-        .filter(|stream| !stream.ended)
-        .collect(alloc)
 }
 
 /// Whether a hub's file takes no further link.
@@ -273,13 +265,8 @@ impl<D: Disk + Drop, F: Folder<File = D> + Drop> Filed<F> {
         // The ends share one commit.
         recorder.hold_all();
         let ended = end_streams(&mut recorder);
-        let open_join = if is_open(recorder.streams()) {
-            join
-        } else {
-            None
-        };
         self.rotation
-            .end_group(self.name, recorder, open_join, day, beside)?;
+            .end_group(self.name, recorder, join, day, beside)?;
         match ended {
             Ok(()) => Ok(true),
             Err(refusal) => {
@@ -307,6 +294,7 @@ impl<D: Disk + Drop, F: Folder<File = D> + Drop> Filed<F> {
         let hub = hub_over(self.alloc, recorder, self.most)?;
         stations.change(live_over(self.alloc, hub)?, Next::Another);
         let answered = begin_link(stations, serials, !is_ended)?;
+        self.tell_time(stations, day, beside);
         let hub = stations.newest().hub();
         let Ok(begun) = open_streams(self.alloc, hub.streams()) else {
             return Err(ArchiveFault::Memory);
@@ -391,8 +379,8 @@ impl<D: Disk + Drop, F: Folder<File = D> + Drop> Filed<F> {
         Ok(stations.newest_mut().resume(clocks.steady))
     }
 
-    /// After a step: a line of times is written, unless something waits, or one was written within the last second. Once
-    /// something is kept the next fault is the first again.
+    /// After a step: a line of times is written, unless something waits, or one was written within the last second that tells
+    /// of the open link. Once something is kept the next fault is the first again.
     pub fn stepped<B: Beside>(&mut self, stations: &Stations<D>, day: u64, beside: &mut B) {
         let hub = stations.newest().hub();
         if hub.held() > 0 || hub.is_failed() {
@@ -401,7 +389,7 @@ impl<D: Disk + Drop, F: Folder<File = D> + Drop> Filed<F> {
         if hub.end() > 0 {
             self.left_at = None;
         }
-        if self.rotation.is_time_due(day) {
+        if self.rotation.is_time_due(join_of(stations), day) {
             self.tell_time(stations, day, beside);
         }
     }

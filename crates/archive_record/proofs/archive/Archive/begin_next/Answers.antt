@@ -1,4 +1,4 @@
-use Rattle.std.proofs.Common.{Ok, inl, inr, ◌∙◌, ap, subst}
+use Rattle.std.proofs.Common.{Ok, inl, inr, ◌∙◌, ap, subst, sym}
 use Rattle.archive_record.specs.Changing.{HasBegun}
 use Rattle.archive_record.specs.declared.archive.Archive.{Archive}
 use Rattle.archive_record.specs.declared.rotation.Rules.{Rules}
@@ -21,20 +21,24 @@ returns-clause-next g c newest is = inl (λ before now.
       again = c.end_newest.new.self.again.items;
       resumes = resumes;
       input = c.end_newest.ensures.input;
-      begun = has_begun g.D.Disk c.args.self.now.rotation.rules.keeping.bytes c.end_newest.new.self.again.items c.in_ok-answered.answered c.begin_again.new.self.newest
+      begun = subst (λ now. HasBegun g.D.Disk c.args.self.now.rotation.rules.keeping.bytes c.end_newest.new.self.again.items c.in_ok-answered.answered now)
+          (sym (ap (λ (a : Archive _ _). a.newest) c.committed.ensures.rest))
+          (has_begun g.D.Disk c.args.self.now.rotation.rules.keeping.bytes c.end_newest.new.self.again.items c.in_ok-answered.answered c.begin_again.new.self.newest
           c.in_ok-name.name c.in_ok-name.recorder c.on.result c.on.ensures c.in_ok-name.ensures.works
           (λ unbounded. c.in_ok-name.ensures.unwritten (ap (λ (r : Rules). r.keeping.bytes) c.end_newest.ensures.rules ∙ unbounded))
-          c.in_ok-answered.ensures.runs;
+          c.in_ok-answered.ensures.runs);
     })
 
 pub returns-clause-none : goal.returns-clause-none
 returns-clause-none g c none =
     let (is, same, unread, beside) = c.end_newest.ensures.none none in (
       unread,
-      subst (λ commands. HasBegun g.D.Disk c.args.self.now.rotation.rules.keeping.bytes commands c.in_ok-answered.answered c.begin_again.new.self.newest)
+      subst (λ commands. HasBegun g.D.Disk c.args.self.now.rotation.rules.keeping.bytes commands c.in_ok-answered.answered c.committed.new.self.newest)
           (ap (λ (a : Archive _ _). a.again.items) same)
+          (subst (λ now. HasBegun g.D.Disk c.args.self.now.rotation.rules.keeping.bytes c.end_newest.new.self.again.items c.in_ok-answered.answered now)
+          (sym (ap (λ (a : Archive _ _). a.newest) c.committed.ensures.rest))
           (has_begun g.D.Disk c.args.self.now.rotation.rules.keeping.bytes c.end_newest.new.self.again.items c.in_ok-answered.answered c.begin_again.new.self.newest
           c.in_ok-name.name c.in_ok-name.recorder c.on.result c.on.ensures c.in_ok-name.ensures.works
           (λ unbounded. c.in_ok-name.ensures.unwritten (ap (λ (r : Rules). r.keeping.bytes) c.end_newest.ensures.rules ∙ unbounded))
-          c.in_ok-answered.ensures.runs),
+          c.in_ok-answered.ensures.runs)),
     )

@@ -1,5 +1,7 @@
-use Rattle.std.proofs.Common.{◌∙◌}
-use Rattle.archive_record.proofs.Retained.{left_then}
+use Rattle.std.proofs.Common.{◌∙◌, refl, sym, subst}
+use Rattle.archive_record.specs.Account.{IsHandedOut}
+use Rattle.archive_record.proofs.Retained.{left_same, left_then}
+use Rattle.archive_record.proofs.Staying.{goes_on, nothing_goes}
 use Rattle.archive_record.proofs.rotation.Rotation.make_room.Goals as goal
 
 pub returns-then-throw_one-clause-left : goal.returns-then-throw_one-clause-left
@@ -12,4 +14,24 @@ loop-preserved g c = record {
   paired = λ same. c.throw_one.ensures.paired (c.loop.invariant.paired same);
   out = c.throw_one.ensures.out ∙ c.loop.invariant.out;
   rules = c.throw_one.ensures.rules ∙ c.loop.invariant.rules;
+  leads = λ honest a disks out named. goes_on g.F.Folder.names g.F.Folder.moment g.F.Folder.left_since g.D.Disk c.args.self.now.files.out a
+      c.args.self.now.files.folder c.loop.self.files.folder c.throw_one.new.self.files.folder disks out (c.loop.invariant.leads honest a disks out named)
+      (λ b is here. c.throw_one.ensures.leads (c.loop.invariant.honest.0 honest) b disks (subst (λ o. IsHandedOut o b) (sym c.loop.invariant.out) is) here);
+  honest = (λ now. c.throw_one.ensures.honest.0 (c.loop.invariant.honest.0 now), λ now. c.loop.invariant.honest.1 (c.throw_one.ensures.honest.1 now));
+}
+
+pub returns-then-throw_one-clause-leads : goal.returns-then-throw_one-clause-leads
+returns-then-throw_one-clause-leads g c = λ honest a disks out named.
+    goes_on g.F.Folder.names g.F.Folder.moment g.F.Folder.left_since g.D.Disk c.args.self.now.files.out a
+    c.args.self.now.files.folder c.loop.self.files.folder c.throw_one.new.self.files.folder disks out (c.loop.invariant.leads honest a disks out named)
+    (λ b is here. c.throw_one.ensures.leads (c.loop.invariant.honest.0 honest) b disks (subst (λ o. IsHandedOut o b) (sym c.loop.invariant.out) is) here)
+
+pub loop-init : goal.loop-init
+loop-init g c = record {
+  left = left_same c.args.self.now.files.files;
+  paired = λ same. same;
+  out = refl;
+  rules = refl;
+  leads = λ honest a disks out named. nothing_goes g.F.Folder.names g.F.Folder.moment g.F.Folder.left_since g.D.Disk a c.args.self.now.files.folder disks named;
+  honest = (λ now. now, λ now. now);
 }
