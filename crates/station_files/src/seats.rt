@@ -1,9 +1,10 @@
 //! The station whose file is recorded, and those that serve files that have ended to whoever reads them still.
-ghost use Rattle.std.specs.Prelude.{◌≡◌, ◌<◌, ◌^◌, None, Ok, Some, length, IfSome, OnOk, ◌↔◌, ◌-◌, ◌≤◌, true};
+ghost use Rattle.std.specs.Prelude.{◌≡◌, ◌≢◌, ◌↔◌, ◌+◌, ◌-◌, ◌^◌, ◌<◌, ◌≤◌, ◌∷◌, ◌++◌, [], IfSome, IsSome, None, Ok, OnOk, Some, false, length, min, true, vec_capacity, vec_len};
 ghost use Rattle.slab.specs.Slab.{get};
 ghost use Rattle.serve_clients.specs.Client.{ClientState};
 ghost use Rattle.serve_live.specs.Listening.{ListenerState};
-ghost use Rattle.station.specs.Changing.{HearsOn};
+ghost use Rattle.station.specs.Changing.{HearsOn, ReadsFile};
+ghost use Rattle.station_files.specs.Moving.{EntersNext, HasEntered, HasLeft, HasNotEntered, HearsBy};
 ghost use Rattle.station_files.specs.Seat.{token_of};
 ghost use Rattle.station_files.specs.declared.seats.Seat.{Seat as SeatOf};
 
@@ -146,7 +147,7 @@ pub struct Stations<D: Disk> {
 
 /// Where the station with this number stands.
 fn place_of<D: Disk>(past: &[Past<D>], number: u64) -> Option<usize>
-    ensures { IfSome result (λ at. at < length past.now) }
+    ensures inside { IfSome result (λ at. at < length past.now) }
 {
     for (at, one) in past.iter().enumerate() {
         if one.number == number {
@@ -156,8 +157,11 @@ fn place_of<D: Disk>(past: &[Past<D>], number: u64) -> Option<usize>
     None
 }
 
-/// A connection enters a station under a new key.
-fn enter<D: Disk + Drop>(station: &mut Station<D>, number: u64, client: Client) -> Option<Seat> {
+/// A connection enters a station under a new key. Without memory for it it is gone.
+fn enter<D: Disk + Drop>(station: &mut Station<D>, number: u64, client: Client) -> Option<Seat>
+    ensures entered { IfSome result (λ seat. (seat.station ≡ number) × HasEntered client seat.key station.old station.new) }
+    ensures none { result ≡ None → HasNotEntered station.old station.new }
+{
     match station.enter(client) {
         Ok(key) => Some(Seat {
             station: number,
@@ -173,16 +177,31 @@ fn enter_next<D: Disk + Drop>(
     number: u64,
     client: Client,
     next: Next,
-) -> Option<Seat> {
+) -> Option<Seat>
+    ensures entered { IfSome result (λ seat. (seat.station ≡ number) × EntersNext next client seat.key station.old station.new) }
+    ensures none { result ≡ None → HasNotEntered station.old station.new }
+{
     let seat = enter(station, number, client)?;
-    if next == Next::Another {
-        station.hear_anew(seat.key);
-    }
+    hear_next(station, seat.key, next);
     Some(seat)
 }
 
+/// A connection hears what follows the file that it has heard.
+fn hear_next<D: Disk + Drop>(station: &mut Station<D>, key: usize, next: Next)
+    ensures { get station.old.clients.slots key ≢ None → HearsBy next key station.old station.new }
+{
+    match next {
+        Next::Another => station.hear_anew(key),
+        Next::GoesOn | Next::Same => {}
+    }
+}
+
 /// Takes a connection out that reads the file, if it does.
-fn take_reader<D: Disk + Drop>(station: &mut Station<D>, key: usize) -> Option<Client> {
+fn take_reader<D: Disk + Drop>(station: &mut Station<D>, key: usize) -> Option<Client>
+    ensures taken { IfSome result (λ client. ReadsFile (Some client) × HasLeft client key station.old station.new) }
+    ensures none { result ≡ None → station.new ≡ station.old }
+    ensures each { ReadsFile (get station.old.clients.slots key) → IsSome result }
+{
     if station.reads_file(key) {
         station.leave(key)
     } else {
@@ -263,7 +282,9 @@ impl<D: Disk + Drop> Stations<D> {
     }
 
     /// How many stations there are: the newest, and those over files that have ended.
-    pub fn count(&self) -> usize {
+    pub fn count(&self) -> usize
+        ensures { result ≡ min (length self.now.past.items + 1) (2 ^ 64 - 1) }
+    {
         self.past.len().saturating_add(1)
     }
 
@@ -399,7 +420,10 @@ impl<D: Disk + Drop> Stations<D> {
 
     /// In the file that is recorded now the link goes on that was open at the end of the one before: who hears that hears
     /// on. Call it after `change`, before anybody has a turn.
-    pub fn goes_on(&mut self, meeting: Meeting) {
+    pub fn goes_on(&mut self, meeting: Meeting)
+        ensures rest { self.new ≡ record self.old { past = self.new.past } }
+        ensures none { self.old.past.items ≡ [] → self.new ≡ self.old }
+    {
         if let Some(past) = self.past.last_mut() {
             if past.number == self.last {
                 past.next = Next::GoesOn;
@@ -428,7 +452,11 @@ impl<D: Disk + Drop> Stations<D> {
     }
 
     /// A connection of the newest has another seat, or none. The room for it was made.
-    fn note_move(&mut self, key: usize, to: Option<Seat>) {
+    fn note_move(&mut self, key: usize, to: Option<Seat>)
+        ensures noted { vec_len self.old.moves < vec_capacity self.old.moves
+            → self.new.moves.items ≡ self.old.moves.items ++ record { from = record { station = 0; key = key }; to = to } ∷ [] }
+        ensures rest { self.new ≡ record self.old { moves = self.new.moves } }
+    {
         let from = Seat { station: 0, key };
         let _ = self.moves.push(Move { from, to });
     }
@@ -478,12 +506,17 @@ impl<D: Disk + Drop> Stations<D> {
     }
 
     /// The moves since they were taken up last, in their order.
-    pub fn moves(&self) -> &[Move] {
+    pub fn moves(&self) -> &[Move]
+        ensures { result.now ≡ self.now.moves.items }
+    {
         self.moves.as_slice()
     }
 
     /// The moves were taken up.
-    pub fn took_moves(&mut self) {
+    pub fn took_moves(&mut self)
+        ensures none { self.new.moves.items ≡ [] }
+        ensures rest { self.new ≡ record self.old { moves = self.new.moves } }
+    {
         self.moves.clear();
     }
 }
