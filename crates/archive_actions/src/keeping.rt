@@ -32,8 +32,8 @@ pub struct Keeper<'a> {
     times: Option<Times>,
     // those of the file before, which has ended: they aren't synced yet
     ended: Option<File>,
-    // whether a line was written into the times since a file was begun
-    has_line: bool,
+    // how many lines were told since a file was begun, 255 at most
+    lines: u8,
     // it was told that the file has no times
     has_told: bool,
 }
@@ -52,7 +52,7 @@ impl<'a> Keeper<'a> {
             told,
             times: None,
             ended: None,
-            has_line: false,
+            lines: 0,
             has_told: false,
         }
     }
@@ -194,19 +194,19 @@ impl Beside for Keeper<'_> {
 
     fn begun(&mut self, file: FileName) {
         self.times = None;
-        self.has_line = false;
+        self.lines = 0;
         self.has_told = false;
         let _ = self.open_times(file, 0);
         self.told.tell(file_line(file, b"begins").as_slice());
     }
 
     fn timed(&mut self, line: Line) {
-        // The first line comes with the first commit, whose answer is waited for: the times of the file before wait for
-        // the second.
-        if self.has_line {
+        // The first line comes with the commit that begins the file, whose answer is waited for, and the second may come as
+        // the file ends: the times of the file before wait for the third.
+        if self.lines > 1 {
             self.sync_ended();
         }
-        self.has_line = true;
+        self.lines = self.lines.saturating_add(1);
         let text = line.text();
         let text = text.as_slice();
         if let Some(times) = &mut self.times {
