@@ -209,13 +209,15 @@ impl<D: Disk + Drop> Station<D> {
         }
     }
 
-    /// Once a second everybody has a turn, and who was silent for too long is cut. Call it in each round; it returns
-    /// whether the second is over.
+    /// Once a second everybody has a turn, and who was silent for too long is cut. Those who hear what is recorded are woken
+    /// by that for all that is committed. Call it in each round; it returns whether the second is over.
     pub fn look(&mut self, now: u64) -> bool
         ensures early { now - self.old.looked < 1000 → (result ≡ false) × (self.new ≡ self.old) }
         ensures late { 1000 ≤ now - self.old.looked → (result ≡ true) × (self.new.looked ≡ now) × AreLookedAt now self.old.clients self.new.clients }
         ensures commits { 1000 ≤ now - self.old.looked → (self.new.commits ≡ self.old.counts.commits)
             × (self.new.commits_a_second ≡ self.old.counts.commits - self.old.commits) }
+        ensures woken { (machine : HubState) → Shows D.Disk self.old.live.hub machine → 1000 ≤ now - self.old.looked
+            → self.new.waking ≡ woken_at now (length machine.committed) }
         ensures live { self.new.live ≡ self.old.live }
         ensures air { self.new.air ≡ self.old.air }
         ensures clocks { clocks_of self.new ≡ record (clocks_of self.old) { looked = self.new.looked } }
@@ -224,6 +226,7 @@ impl<D: Disk + Drop> Station<D> {
             return false;
         }
         self.looked = now;
+        self.waking = Waking::at(now, self.live.hub().end());
         self.commits_a_second = self.counts.commits.saturating_sub(self.commits);
         self.commits = self.counts.commits;
         self.clients.look(now);
