@@ -14,7 +14,7 @@ use Rattle.history.specs.Runs.{AreCommands}
 use Rattle.history.specs.World.{Faulted, Flushed, Held, Kept, Refused, Step, World, disk_after, happens, run}
 use Rattle.ogg_command.specs.declared.command.Command.{Command}
 use Rattle.archive_record.specs.Account.{LeadsTo}
-use Rattle.archive_record.specs.Standing.{in_world}
+use Rattle.archive_record.specs.Reaching.{in_world}
 
 first_is : {D : Type 0} (step : Step Command) (disk : D) (steps : List (Step Command × D)) → AreCommands ((step, disk) ∷ steps)
     → IsAnswer step × AreCommands steps

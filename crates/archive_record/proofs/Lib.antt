@@ -14,5 +14,5 @@ mod Looked
 mod Recovered
 mod Retained
 mod Spelled
-mod Standing
+mod Reaching
 mod Staying

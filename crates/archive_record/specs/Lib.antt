@@ -11,6 +11,6 @@ pub mod Resting
 pub mod Retention
 pub mod Rotating
 pub mod Spelling
-pub mod Standing
+pub mod Reaching
 pub mod Stepping
 pub mod Writing

@@ -12,7 +12,7 @@ ghost use Rattle.archive_record.specs.Account.{LeadsTo};
 ghost use Rattle.archive_record.specs.Files.{highest};
 ghost use Rattle.archive_record.specs.Filing.{HasExactly, IsNew, unwritten};
 ghost use Rattle.archive_record.specs.Resting.{IsAtRest};
-ghost use Rattle.archive_record.specs.Standing.{AreAt, Comes, IsBegun, IsLetGo, IsWritten, LastIsLast, Reaches, in_world, with_file, with_newest};
+ghost use Rattle.archive_record.specs.Reaching.{AreAt, Comes, IsBegun, IsLetGo, IsWritten, LastIsLast, Reaches, in_world, with_file, with_newest};
 
 use crate::archive::ArchiveFault;
 use crate::damage::Damage;

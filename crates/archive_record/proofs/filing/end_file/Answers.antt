@@ -1,7 +1,7 @@
 use Rattle.std.proofs.Common.{[], refl, sym, subst, ◌∙◌}
 use Rattle.archive_history.specs.Archive.{Known, Whole}
 use Rattle.history.specs.World.{Faulted, GivenBack, Sealing, closed}
-use Rattle.archive_record.proofs.Standing.{laws_of, let_aside, let_sealed}
+use Rattle.archive_record.proofs.Reaching.{laws_of, let_aside, let_sealed}
 use Rattle.archive_record.proofs.filing.end_file.Goals as goal
 
 pub returns-then-is_failed-clause-leads : goal.returns-then-is_failed-clause-leads

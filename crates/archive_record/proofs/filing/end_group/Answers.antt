@@ -2,7 +2,7 @@ use Rattle.std.proofs.Common.{[], sym, subst}
 use Rattle.archive_history.specs.History.{with_disk}
 use Rattle.history.specs.World.{Flushed}
 use Rattle.file_recorder.specs.Recorder.{IsRecorderStep}
-use Rattle.archive_record.proofs.Standing.{laws_of, let_flushed}
+use Rattle.archive_record.proofs.Reaching.{laws_of, let_flushed}
 use Rattle.archive_record.proofs.filing.end_group.Goals as goal
 
 pub returns-in-Ok-clause-leads : goal.returns-in-Ok-clause-leads

@@ -4,7 +4,7 @@ use Rattle.history.specs.World.{Opened, World, start}
 use Rattle.ogg_command.specs.declared.command.Command.{Command}
 use Rattle.archive_record.specs.Filing.{unwritten}
 use Rattle.archive_record.proofs.Begun.{opened_unwritten, stands_empty}
-use Rattle.archive_record.proofs.Standing.{laws_of, opened_new, unopened_new}
+use Rattle.archive_record.proofs.Reaching.{laws_of, opened_new, unopened_new}
 use Rattle.archive_record.proofs.filing.first_recorder.Goals as goal
 
 pub returns-in-Ok-clause-unwritten : goal.returns-in-Ok-clause-unwritten

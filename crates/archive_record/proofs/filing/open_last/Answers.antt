@@ -1,6 +1,6 @@
 use Rattle.std.proofs.Common.{[], sym, ◌∙◌}
 use Rattle.archive_history.specs.History.{point}
-use Rattle.archive_record.proofs.Standing.{comes_so, if_some, in_its_world, its_disk, laws_of, left_last, opened_last}
+use Rattle.archive_record.proofs.Reaching.{comes_so, if_some, in_its_world, its_disk, laws_of, left_last, opened_last}
 use Rattle.archive_record.proofs.filing.open_last.Goals as goal
 
 pub returns-then-not-is_free-clause-unopened : goal.returns-then-not-is_free-clause-unopened

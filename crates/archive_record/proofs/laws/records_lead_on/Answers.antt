@@ -6,7 +6,7 @@ use Rattle.history.specs.World.{World, run}
 use Rattle.link_chain.specs.Recording.{Recording}
 use Rattle.ogg_command.specs.declared.command.Command.{Command}
 use Rattle.archive_history.specs.History.{point}
-use Rattle.archive_record.specs.Standing.{in_world}
+use Rattle.archive_record.specs.Reaching.{in_world}
 use Rattle.archive_record.proofs.Leading.{AreEvents, steps_lead}
 use Rattle.archive_record.proofs.laws.records_lead_on.Goals as goal
 

@@ -21,7 +21,7 @@ use Rattle.archive_record.specs.Account.{LeadsTo, Stands}
 use Rattle.archive_record.specs.Files.{Has}
 use Rattle.archive_record.specs.FilesState.{FilesState}
 use Rattle.archive_record.specs.Filing.{unwritten}
-use Rattle.archive_record.specs.Standing.{AreAt, Comes, IsBegun, IsLast, IsWritten, LastIsLast, Reaches, in_world, with_file, with_newest}
+use Rattle.archive_record.specs.Reaching.{AreAt, Comes, IsBegun, IsLast, IsWritten, LastIsLast, Reaches, in_world, with_file, with_newest}
 
 -- one number, or another
 data Same (m n : ℕ) : Type 0 where
