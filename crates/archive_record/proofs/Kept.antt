@@ -14,7 +14,7 @@ use Rattle.archive_record.specs.Writing.{AnswersIn, Writing}
 
 module _ {D : Type 0} (model : DiskModel D) where
   -- what the newest file answers its recorder answers, and the file is the same
-  all_in : (records : List Record) (replies : List Reply) (bytes : List ℕ) (before after : Writing D) → AnswersAll (AnswersIn model) before records replies bytes after
+  pub all_in : (records : List Record) (replies : List Reply) (bytes : List ℕ) (before after : Writing D) → AnswersAll (AnswersIn model) before records replies bytes after
       → AnswersAll (Answers model) before.progress records replies bytes after.progress × (after.name ≡ before.name)
   all_in [] [] bytes before after (none, same) = ((none, ap (λ (w : Writing D). w.progress) same), ap (λ (w : Writing D). w.name) same)
   all_in (given ∷ records) (reply ∷ replies) bytes before after (next, own, later, first, rest, is) =

@@ -1,5 +1,5 @@
 -- What stays known of a folder after each call.
-use Rattle.std.specs.Prelude.{◌≡◌, ◌≢◌, ◌⊎◌, ◌+◌, ◌<◌, ◌^◌, SomeIff, Contains, Result, Ok, Err, OnOk, OnErr, length, ℕ, List, [], ◌∷◌, ◌++◌, Option, None, Some, refl, ⊤}
+use Rattle.std.specs.Prelude.{◌≡◌, ◌≢◌, ◌⊎◌, ◌+◌, ◌<◌, ◌^◌, SomeIff, Contains, Result, Ok, Err, OnOk, OnErr, length, ℕ, List, [], ◌∷◌, ◌++◌, Option, None, Some, refl}
 use Rattle.std.proofs.Common.{inl, inr, ⊎_elim, arith, sym, ap, ◌∙◌, subst, get_or}
 use Rattle.disk_model.specs.declared.disk.Disk.{Ghosts as DiskModel}
 use Rattle.archive_folder.specs.declared.names.FileName.{FileName}

@@ -6,7 +6,7 @@ use Rattle.disk_model.specs.declared.disk.Disk.{Ghosts as DiskModel}
 use Rattle.archive_folder.specs.declared.names.Name.{Name}
 use Rattle.archive_folder.specs.declared.names.Fate.TheVariants.{Stays}
 use Rattle.archive_history.specs.Archive.{Archive, Newest, names, names_of, newest_names, recorded, with_world}
-use Rattle.archive_history.specs.History.{IsAnswer, IsSafe, with_disk}
+use Rattle.archive_history.specs.History.{IsAnswer, with_disk}
 use Rattle.chain_rules.specs.Recording.{add}
 use Rattle.file_recorder.specs.Recovery.{Accepts, Shows}
 use Rattle.history.specs.History.{AreSteps, IsStep}
@@ -14,6 +14,7 @@ use Rattle.history.specs.Runs.{AreCommands}
 use Rattle.history.specs.World.{Faulted, Flushed, Held, Kept, Refused, Step, World, disk_after, happens, run}
 use Rattle.ogg_command.specs.declared.command.Command.{Command}
 use Rattle.archive_record.specs.Account.{LeadsTo}
+use Rattle.archive_record.specs.Leading.{CallsLeadOn}
 use Rattle.archive_record.specs.Reaching.{in_world}
 
 first_is : {D : Type 0} (step : Step Command) (disk : D) (steps : List (Step Command × D)) → AreCommands ((step, disk) ∷ steps)
@@ -40,23 +41,13 @@ module _ {F D : Type 0} (names_in : F → List Name) (moment : F → ℕ) (left_
   abbrev Leads : Archive Command → F → (ℕ → D) → Archive Command → F → (ℕ → D) → Type 0
   Leads a old disks b new after = LeadsTo names_in moment left_since model a old disks b new after
 
-  -- what archive_history says of nothing, of events and others, and of a step of the newest file
-  pub record AreEvents : Type 0 where
-    pub nothing : (a : Archive Command) (folder : F) (disks : ℕ → D) → Leads a folder disks a folder disks
-    pub both : (a b c : Archive Command) (old mid new : F) (disks between after : ℕ → D) → Leads a old disks b mid between → Leads b mid between c new after
-        → Leads a old disks c new after
-    pub step : (a : Archive Command) (file : Newest Command) (disks : ℕ → D) (folder : F) (step : Step Command) (disk : D) → a.newest ≡ Some file
-        → names_in folder ≡ names a → IsAnswer step → IsSafe file.name.fate (happens file.world step)
-        → IsStep model Shows Accepts add [] file.world step (disks file.name.number) disk
-        → Leads a folder disks (recorded a step) folder (with_disk file.name.number disk disks)
-
   -- the newest file of the account has come to this world, and to this disk
   abbrev pub LeadsOn : Archive Command → F → (ℕ → D) → Newest Command → World Command → D → Type 0
   LeadsOn a folder disks file world disk =
       (b : Archive Command) × (after : ℕ → D) × (b.newest ≡ Some (in_world file world)) × (b.ended ≡ a.ended) × (after file.name.number ≡ disk)
       × (names_in folder ≡ names b) × Leads a folder disks b folder after
 
-  pub steps_lead : AreEvents → (steps : List (Step Command × D)) (a : Archive Command) (file : Newest Command) (disks : ℕ → D) (folder : F) (disk : D)
+  pub steps_lead : CallsLeadOn names_in moment left_since model → (steps : List (Step Command × D)) (a : Archive Command) (file : Newest Command) (disks : ℕ → D) (folder : F) (disk : D)
       → AreCommands steps → a.newest ≡ Some file → names_in folder ≡ names a → file.name.fate ≡ Stays → disks file.name.number ≡ disk
       → AreSteps model Shows Accepts add [] file.world disk steps
       → LeadsOn a folder disks file (run file.world steps) (disk_after disk steps)

@@ -1,5 +1,5 @@
 -- Disks that are given back after more than one call.
-use Rattle.std.specs.Prelude.{◌≡◌, ◌≢◌, ◌⊎◌, ◌<◌, ◌≤◌, ℕ, List, length, take, drop, Result, Ok, Err, IfOk, IfErr}
+use Rattle.std.specs.Prelude.{◌≡◌, ◌⊎◌, ◌≤◌, ℕ, List, length, take, Result, Ok, Err, IfOk, IfErr}
 use Rattle.std.proofs.Common.{refl, inl, inr, ⊎_elim, arith, sym, ap, ◌∙◌, subst}
 use Rattle.std.proofs.lemmas.List.{length-take-le}
 use Rattle.disk_model.specs.declared.disk.Disk.{Ghosts as DiskModel}

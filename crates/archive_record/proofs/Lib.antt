@@ -13,6 +13,7 @@ mod Left
 mod Looked
 mod Recovered
 mod Retained
+mod Going
 mod Spelled
 mod Reaching
 mod Staying

@@ -1,12 +1,12 @@
 -- What calls do to the numbers that are there.
-use Rattle.std.specs.Prelude.{◌≡◌, ◌≢◌, ◌⊎◌, ◌+◌, ◌<◌, ◌==◌, Bool, true, false, not, if◌then◌else◌, ℕ, zero, suc, max, List, [], ◌∷◌, ◌++◌, length, filter, map, Contains, refl, ⊤}
+use Rattle.std.specs.Prelude.{◌≡◌, ◌≢◌, ◌⊎◌, ◌+◌, ◌<◌, ◌==◌, Bool, true, false, not, if◌then◌else◌, ℕ, zero, suc, List, [], ◌∷◌, ◌++◌, length, Contains, refl}
 use Rattle.std.proofs.Common.{inl, inr, ⊎_elim, arith, sym, ap, ◌∙◌, subst, get_or}
 use Rattle.std.proofs.lemmas.Bool.Decides.{nat_tests}
 use Rattle.archive_folder.specs.declared.names.FileName.{FileName}
 use Rattle.archive_folder.specs.declared.names.Name.{Name}
 use Rattle.archive_folder.specs.declared.names.Fate.{Fate}
 use Rattle.archive_folder.specs.declared.names.Fate.TheVariants.{Stays, Comes, Goes}
-use Rattle.archive_folder.specs.Names.{name, numbers_of, listed, listed_one, made, with_fate, synced, synced_one, AreBelow}
+use Rattle.archive_folder.specs.Names.{name, numbers_of, listed, listed_one, with_fate, synced, synced_one, AreBelow}
 use Rattle.archive_record.specs.Files.{Has, highest, without}
 
 pub contains : (ms : List ℕ) (n : ℕ) → Has ms n → Contains ms n

@@ -1,7 +1,8 @@
 -- Files are looked at and thrown away, and the file that is written stays so.
-use Rattle.std.proofs.Common.{◌≡◌, ◌≢◌, ℕ, Option, Some, None, List, [], ◌∷◌, refl, sym, ◌∙◌, ap, subst}
+use Rattle.std.proofs.Common.{◌≡◌, ℕ, Option, Some, None, List, [], ◌∷◌, refl, sym, ◌∙◌, subst}
 use Rattle.std.specs.Prelude.{IfSome}
 use Rattle.disk_model.specs.declared.disk.Disk.{Ghosts as DiskModel}
+use Rattle.archive_folder.specs.declared.names.FileName.{FileName}
 use Rattle.archive_folder.specs.declared.names.Name.{Name}
 use Rattle.archive_history.specs.Archive.{Archive, Newest, names, with_new}
 use Rattle.archive_history.specs.History.{AreEvents, Event, IsNotNewest, Point, account_after, point, point_after, with_disk}
@@ -9,20 +10,32 @@ use Rattle.archive_history.specs.Leading.{and_then, stays}
 use Rattle.chain_rules.specs.Recording.{add}
 use Rattle.file_recorder.specs.Recovery.{Accepts, Shows}
 use Rattle.ogg_command.specs.declared.command.Command.{Command}
-use Rattle.archive_record.specs.Account.{IsHandedOut, LeadsTo, StaysWritten, WritesNew, WritesNone}
+use Rattle.archive_record.specs.Account.{IsLastOf, LeadsTo, NewestIsLast, StaysWritten, WritesNew, WritesNone}
+use Rattle.archive_record.specs.Retention.{IsLeftOf, MayGo}
 use Rattle.archive_record.proofs.Leading.{at_same}
 
-out_same : (out : Option ℕ) (a b : Archive Command) → b.newest ≡ a.newest → IsHandedOut out a → IsHandedOut out b
-out_same out a b same is = subst (λ (newest : Option (Newest Command)). IfSome newest (λ (file : Newest Command). out ≡ Some file.name.number)) (sym same) is
+newest_same : (files : List FileName) (a b : Archive Command) → b.newest ≡ a.newest → NewestIsLast files a → NewestIsLast files b
+newest_same files a b same is = subst (λ (newest : Option (Newest Command)). IfSome newest (λ (file : Newest Command). IsLastOf file.name.number files)) (sym same) is
 
-not_written : (out : Option ℕ) (n : ℕ) (newest : Option (Newest Command)) → IfSome newest (λ (file : Newest Command). out ≡ Some file.name.number)
-    → out ≢ Some n → IsNotNewest n newest
-not_written out n None is other = tt
-not_written out n (Some file) is other = λ same. other (is ∙ ap Some same)
+-- the last file is left, whatever else goes
+pub still_last : (before after : List FileName) (a : Archive Command) → IsLeftOf before after → NewestIsLast before a → NewestIsLast after a
+still_last before after a left is = still a.newest is
+  where
+    still : (newest : Option (Newest Command)) → IfSome newest (λ (file : Newest Command). IsLastOf file.name.number before)
+        → IfSome newest (λ (file : Newest Command). IsLastOf file.name.number after)
+    still None is = tt
+    still (Some file) (front, last, is, number) = let (rest, here) = left.newest front last is in (rest, last, here, number)
 
--- a file that isn't handed out isn't the newest of the account
-pub not_newest : (out : Option ℕ) (n : ℕ) (a : Archive Command) → IsHandedOut out a → out ≢ Some n → IsNotNewest n a.newest
-not_newest out n a is other = not_written out n a.newest is other
+-- a file that may go isn't the newest of the account
+pub not_newest : (n : ℕ) (files : List FileName) (a : Archive Command) → NewestIsLast files a → MayGo n files → IsNotNewest n a.newest
+not_newest n files a is may = other a.newest is
+  where
+    other : (newest : Option (Newest Command)) → IfSome newest (λ (file : Newest Command). IsLastOf file.name.number files) → IsNotNewest n newest
+    other None is = tt
+    other (Some file) (front, last, is, number) = λ same. may.older front last is (number ∙ same)
+
+none_is_last : (files : List FileName) (a : Archive Command) → a.newest ≡ None → NewestIsLast files a
+none_is_last files a is = subst (λ (newest : Option (Newest Command)). IfSome newest (λ (file : Newest Command). IsLastOf file.name.number files)) (sym is) tt
 
 module _ {F D : Type 0} (names_in : F → List Name) (moment : F → ℕ) (left_since : F → ℕ → List ℕ → Type 0) (model : DiskModel D) where
   abbrev Stays : Archive Command → F → (ℕ → D) → F → Type 0
@@ -50,10 +63,10 @@ module _ {F D : Type 0} (names_in : F → List Name) (moment : F → ℕ) (left_
       → LeadsTo names_in moment left_since model a old disks a new disks → Stays a old disks new
   asked a old new disks named same leads = (a, refl, same ∙ named, leads)
 
-  pub goes_on : (out : Option ℕ) (a : Archive Command) (old mid new : F) (disks : ℕ → D) → IsHandedOut out a → Stays a old disks mid
-      → ((b : Archive Command) → IsHandedOut out b → names_in mid ≡ names b → Stays b mid disks new) → Stays a old disks new
-  goes_on out a old mid new disks is (b, same, named, leads) later =
-      let (c, kept, names_are, on) = later b (out_same out a b same is) named in (
+  pub goes_on : (before between : List FileName) (a : Archive Command) (old mid new : F) (disks : ℕ → D) → NewestIsLast before a → IsLeftOf before between
+      → Stays a old disks mid → ((b : Archive Command) → NewestIsLast between b → names_in mid ≡ names b → Stays b mid disks new) → Stays a old disks new
+  goes_on before between a old mid new disks is left (b, same, named, leads) later =
+      let (c, kept, names_are, on) = later b (still_last before between b left (newest_same before a b same is)) named in (
         c,
         kept ∙ same,
         names_are,
@@ -79,9 +92,9 @@ module _ {F D : Type 0} (names_in : F → List Name) (moment : F → ℕ) (left_
   none_yet a folder disks is named = (a, disks, is, named, stays names_in moment left_since model Shows Accepts add [] a (point folder disks))
 
   -- and then none is, either
-  pub none_still : (out : Option ℕ) (a : Archive Command) (old mid new : F) (disks : ℕ → D) → Free a old disks mid
+  pub none_still : (a : Archive Command) (old mid new : F) (disks : ℕ → D) → Free a old disks mid
       → ((b : Archive Command) (after : ℕ → D) → b.newest ≡ None → names_in mid ≡ names b → Free b mid after new) → Free a old disks new
-  none_still out a old mid new disks (b, after, is, named, leads) later =
+  none_still a old mid new disks (b, after, is, named, leads) later =
       let (c, last, none, names_are, on) = later b after is named in (
         c,
         last,
@@ -91,11 +104,10 @@ module _ {F D : Type 0} (names_in : F → List Name) (moment : F → ℕ) (left_
       )
 
   -- files go meanwhile
-  pub none_stays : (out : Option ℕ) (a : Archive Command) (old mid new : F) (disks : ℕ → D) → Free a old disks mid
-      → ((b : Archive Command) (after : ℕ → D) → IsHandedOut out b → names_in mid ≡ names b → Stays b mid after new) → Free a old disks new
-  none_stays out a old mid new disks so_far later = none_still out a old mid new disks so_far (λ b after is named.
-      let handed : IsHandedOut out b = subst (λ (newest : Option (Newest Command)). IfSome newest (λ (file : Newest Command). out ≡ Some file.name.number)) (sym is) tt in
-      let (c, same, names_are, leads) = later b after handed named in (c, after, same ∙ is, names_are, leads))
+  pub none_stays : (files : List FileName) (a : Archive Command) (old mid new : F) (disks : ℕ → D) → Free a old disks mid
+      → ((b : Archive Command) (after : ℕ → D) → NewestIsLast files b → names_in mid ≡ names b → Stays b mid after new) → Free a old disks new
+  none_stays files a old mid new disks so_far later = none_still a old mid new disks so_far (λ b after is named.
+      let (c, same, names_are, leads) = later b after (none_is_last files b is) named in (c, after, same ∙ is, names_are, leads))
 
   -- and then a file is begun
   pub new_one : (a : Archive Command) (old mid new : F) (disks : ℕ → D) (n : ℕ) (disk : D) → Free a old disks mid

@@ -1,6 +1,7 @@
 -- A folder of recordings, and the account that it stands as. Ours.
-use Rattle.std.specs.Prelude.{◌≡◌, ℕ, List, [], Option, None, Some, IfSome}
+use Rattle.std.specs.Prelude.{◌≡◌, ℕ, List, [], ◌∷◌, ◌++◌, None, Some, IfSome}
 use Rattle.disk_model.specs.declared.disk.Disk.{Ghosts as DiskModel}
+use Rattle.archive_folder.specs.declared.names.FileName.{FileName}
 use Rattle.archive_folder.specs.declared.names.Fate.TheVariants.{Stays}
 use Rattle.archive_folder.specs.declared.names.Name.{Name}
 use Rattle.archive_folder.specs.Names.{name}
@@ -22,9 +23,13 @@ abbrev pub LeadsTo : {F D : Type 0} → (F → List Name) → (F → ℕ) → (F
 LeadsTo names_in moment left_since model a old disks b new after =
     Leads names_in moment left_since model Shows Accepts add [] a (point old disks) b (point new after)
 
--- the file that is written, if one is, is handed out
-abbrev pub IsHandedOut : Option ℕ → Archive Command → Type 0
-IsHandedOut out a = IfSome a.newest (λ (file : Newest Command). out ≡ Some file.name.number)
+-- the last of these files has this number
+abbrev pub IsLastOf : ℕ → List FileName → Type 0
+IsLastOf n files = (front : List FileName) × (last : FileName) × (files ≡ front ++ last ∷ []) × (last.number ≡ n)
+
+-- the file that is written, if one is, is the last of these
+abbrev pub NewestIsLast : List FileName → Archive Command → Type 0
+NewestIsLast files a = IfSome a.newest (λ (file : Newest Command). IsLastOf file.name.number files)
 
 -- Events of the law lead to an account in which the same file is written, or none is. The files' disks are the same.
 abbrev pub StaysWritten : {F D : Type 0} → (F → List Name) → (F → ℕ) → (F → ℕ → List ℕ → Type 0) → DiskModel D → Archive Command → F → (ℕ → D) → F → Type 0

@@ -1,5 +1,5 @@
 -- What a writer of a folder knows of its files, beside the folder's own names. Ours.
-use Rattle.std.specs.Prelude.{◌≡◌, ◌≢◌, ◌⊎◌, ◌<◌, ◌==◌, Bool, not, ℕ, max, List, [], ◌∷◌, ◌++◌, filter, map, Option, None, Some, ⊤}
+use Rattle.std.specs.Prelude.{◌≡◌, ◌≢◌, ◌⊎◌, ◌==◌, Bool, not, ℕ, max, List, [], ◌∷◌, filter, Option, None, Some, ⊤}
 use Rattle.archive_folder.specs.declared.names.FileName.{FileName}
 use Rattle.archive_folder.specs.declared.names.Name.{Name}
 use Rattle.archive_folder.specs.Names.{Place, Out, IsKept, listed, AreBelow}

@@ -4,6 +4,7 @@ pub mod Changing
 pub mod Files
 pub mod FilesState
 pub mod Filing
+pub mod Leading
 pub mod Opening
 pub mod Recorded
 pub mod Recovering

@@ -4,7 +4,6 @@ use Rattle.disk_model.specs.declared.disk.Disk.{Ghosts as DiskModel}
 use Rattle.disk_model.specs.Frame.{Frame}
 use Rattle.ogg_page.specs.declared.fault.PageFault.{PageFault}
 use Rattle.link_chain.specs.declared.chain_fault.ChainFault.{ChainFault}
-use Rattle.gate_file.specs.declared.fault.OpenFault.{OpenFault}
 use Rattle.gate_file.specs.declared.fault.OpenFault.TheVariants.{Disk, Page, Chain, Unfinished}
 use Rattle.gate_file.specs.Found.{IsDamagedAt}
 use Rattle.gate_file.specs.Gate.{EndsAt}

@@ -1,5 +1,5 @@
 -- When the next file of an archive is begun. Ours.
-use Rattle.std.specs.Prelude.{ℕ, max}
+use Rattle.std.specs.Prelude.{max}
 use Rattle.archive_names.specs.declared.plan.Limits.{Limits}
 
 -- a period has at least a second

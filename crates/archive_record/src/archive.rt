@@ -1,15 +1,19 @@
 //! The machine of an archive: an input is recorded into the files of a folder, one after the other.
-ghost use Rattle.std.specs.Prelude.{◌≡◌, ◌≢◌, ◌⊎◌, ◌↔◌, ◌<◌, [], Bool, IfErr, IfOk, IfSome, IsOk, IsTrue, OnErr, OnOk, None, Some, Ok, Err, true, false, vec_capacity};
+ghost use Rattle.std.specs.Prelude.{◌≡◌, ◌≢◌, ◌⊎◌, ◌↔◌, ◌<◌, [], Bool, ℕ, IfErr, IfOk, IfSome, IsOk, IsTrue, OnErr, OnOk, None, Some, Ok, Err, true, false, vec_capacity};
 ghost use Rattle.file_recorder.specs.Recorder.{committed};
 ghost use Rattle.import_record.specs.Reading.{IsDue, LacksMemoryAtEnd, LacksMemoryFor, TellsJunk};
 ghost use Rattle.import_record.specs.Resuming.{Resumes};
 ghost use Rattle.import_record.specs.Running.{nothing};
 ghost use Rattle.import_record.specs.Steps.{state_of};
 ghost use Rattle.link_chain.specs.ChainState.{is_open};
+ghost use Rattle.archive_history.specs.Archive.{Archive as Account};
+ghost use Rattle.ogg_command.specs.declared.command.Command.{Command as CommandOf};
 ghost use Rattle.ogg_command.specs.declared.refusal.Refusal.{Refusal as RefusalOf};
 ghost use Rattle.archive_record.specs.Changing.{GoesOver, HasBegun, HasEnded, HasNotEnded, NextIsDue};
 ghost use Rattle.archive_record.specs.Files.{AllKept};
 ghost use Rattle.archive_record.specs.Filing.{HasExactly};
+ghost use Rattle.archive_record.specs.Reaching.{AreAt, GoesBy, MayStart, WritesIt};
+ghost use Rattle.archive_record.specs.Account.{LeadsTo, Stands};
 ghost use Rattle.archive_record.specs.Resting.{IsAtRest};
 ghost use Rattle.archive_record.specs.Stepping.{HasFinished, HasFlushed, HasRunAgain, HasStepped, HasStopped};
 ghost use Rattle.archive_record.specs.Writing.{IsNow, Writing};
@@ -18,13 +22,14 @@ ghost use Rattle.archive_record.specs.declared.newest.Newest.{Newest as NewestOf
 use crate::beside::Beside;
 use crate::ending::{Unended, end_held, end_open, tell_unended};
 use crate::files::BeginFault;
+use crate::laws::files_lead_on;
 use crate::newest::Newest;
 use crate::rotation::{Rotation, Rules};
 use archive_folder::Folder;
 use archive_times::Join;
 use disk_model::{Disk, Memory};
 use feed_runner::Runner;
-use file_recorder::Recorder;
+use file_recorder::{Recorder, records_are_steps};
 use import_record::{Answered, ImportRun, RecordFault, Step, Taken, run_all};
 use ogg_command::Command;
 use std::alloc::Global;
@@ -94,8 +99,17 @@ impl<D: Disk + Drop, F: Folder<File = D> + Drop> Archive<D, F> {
         // Only what rests is recorded into, and nothing is to be begun again.
         ensures rests { IfOk result (λ archive. IfSome archive.newest (λ newest. IsAtRest newest.recorder)) }
         ensures none { IfOk result (λ archive. archive.again.items ≡ []) }
+        // Events of the law lead on, if a program may start on the folder.
+        ensures goes { IfOk result (λ archive. F.is_honest folder → (a : Account CommandOf) (disks : ℕ → D)
+            → Stands F.names D.Disk a folder disks → MayStart F.file D.Disk folder a disks
+            → F.is_honest archive.rotation.files.folder
+            × ((b : Account CommandOf) × (after : ℕ → D) × WritesIt D.Disk archive.rotation.files archive.newest b after
+            × AreAt F.names D.Disk archive.rotation.files b after
+            × LeadsTo F.names F.moment F.left_since D.Disk a folder disks b archive.rotation.files.folder after)) }
         ensures rules { IfOk result (λ archive. archive.rotation.rules ≡ rules) }
     {
+        // For the proof alone.
+        files_lead_on::<D, F>();
         let mut rotation = Rotation::open(alloc, folder, rules, now)?;
         let newest = match rotation.open_newest(beside)? {
             Some((name, recorder)) => Some(Newest::on(name, recorder)),
@@ -154,6 +168,7 @@ impl<D: Disk + Drop, F: Folder<File = D> + Drop> Archive<D, F> {
     /// The newest file was opened: its times are gone on with.
     fn opened<B: Beside>(&mut self, now: u64, beside: &mut B)
         ensures rest { self.new ≡ record self.old { rotation = self.new.rotation } }
+        ensures files { self.new.rotation.files ≡ self.old.rotation.files }
         ensures rules { self.new.rotation.rules ≡ self.old.rotation.rules }
     {
         if let Some(newest) = &self.newest {
@@ -201,10 +216,15 @@ impl<D: Disk + Drop, F: Folder<File = D> + Drop> Archive<D, F> {
     pub fn flush<B: Beside>(&mut self, now: u64, beside: &mut B)
         ensures flushes { (before : Writing D) → IsNow before self.old.newest → HasFlushed D.Disk before self.new.newest }
         ensures none { self.old.newest ≡ None → (self.new ≡ self.old) × (beside.new ≡ beside.old) }
+        // Events of the law lead on.
+        ensures goes { GoesBy F.names F.moment F.left_since F.is_honest D.Disk self.old.rotation.files self.old.newest
+            self.new.rotation.files self.new.newest }
         // Beside that only a line of times is written.
         ensures rest { self.new ≡ record self.old { rotation = self.new.rotation; newest = self.new.newest } }
         ensures times { self.new.rotation ≡ record self.old.rotation { last = self.new.rotation.last; written = self.new.rotation.written } }
     {
+        // For the proof alone.
+        files_lead_on::<D, F>();
         self.flush_newest();
         self.committed(now, beside);
     }
@@ -213,8 +233,14 @@ impl<D: Disk + Drop, F: Folder<File = D> + Drop> Archive<D, F> {
     fn flush_newest(&mut self)
         ensures flushes { (before : Writing D) → IsNow before self.old.newest → HasFlushed D.Disk before self.new.newest }
         ensures none { self.old.newest ≡ None → self.new ≡ self.old }
+        // Events of the law lead on.
+        ensures goes { GoesBy F.names F.moment F.left_since F.is_honest D.Disk self.old.rotation.files self.old.newest
+            self.new.rotation.files self.new.newest }
         ensures rest { self.new ≡ record self.old { newest = self.new.newest } }
     {
+        // For the proof alone.
+        files_lead_on::<D, F>();
+        records_are_steps::<D>();
         if let Some(newest) = &mut self.newest {
             newest.run_flush();
         }
@@ -258,8 +284,13 @@ impl<D: Disk + Drop, F: Folder<File = D> + Drop> Archive<D, F> {
         // If there is none, the next one begins alone.
         ensures none { self.old.newest ≡ None → IfOk result (λ answered. (import.new ≡ import.old)
             × HasBegun D.Disk self.old.rotation.rules.keeping.bytes self.old.again.items answered self.new.newest) }
+        // Events of the law lead on.
+        ensures goes { GoesBy F.names F.moment F.left_since F.is_honest D.Disk self.old.rotation.files self.old.newest
+            self.new.rotation.files self.new.newest }
         ensures rules { self.new.rotation.rules ≡ self.old.rotation.rules }
     {
+        // For the proof alone.
+        files_lead_on::<D, F>();
         if self.is_due(now) {
             self.begin_next(import, now, beside)
         } else {
@@ -290,10 +321,16 @@ impl<D: Disk + Drop, F: Folder<File = D> + Drop> Archive<D, F> {
             import.old.input.junk import.new.input.pages (Some []) import.new.input.junk) }
         ensures memory { result ≡ Err (ArchiveFault.Input RecordFault.Memory)
             → LacksMemoryFor import.old import.new (vec_capacity import.old.input.mender.room) }
+        // Events of the law lead on.
+        ensures goes { GoesBy F.names F.moment F.left_since F.is_honest D.Disk self.old.rotation.files self.old.newest
+            self.new.rotation.files self.new.newest }
         // Beside that only a line of times is written.
         ensures rest { self.new ≡ record self.old { rotation = self.new.rotation; newest = self.new.newest } }
         ensures times { self.new.rotation ≡ record self.old.rotation { last = self.new.rotation.last; written = self.new.rotation.written } }
     {
+        // For the proof alone.
+        files_lead_on::<D, F>();
+        records_are_steps::<D>();
         let Some(newest) = &mut self.newest else {
             return Ok(Step::Ended { junk: None });
         };
@@ -322,8 +359,13 @@ impl<D: Disk + Drop, F: Folder<File = D> + Drop> Archive<D, F> {
             → HasNotEnded D.Disk self.old.rotation.files.out newest before self.new.newest) × (answered ≡ nothing) × (import.new ≡ import.old))) }
         ensures none { self.old.newest ≡ None → IfOk result (λ answered. (import.new ≡ import.old)
             × HasBegun D.Disk self.old.rotation.rules.keeping.bytes self.old.again.items answered self.new.newest) }
+        // Events of the law lead on.
+        ensures goes { GoesBy F.names F.moment F.left_since F.is_honest D.Disk self.old.rotation.files self.old.newest
+            self.new.rotation.files self.new.newest }
         ensures rules { self.new.rotation.rules ≡ self.old.rotation.rules }
     {
+        // For the proof alone.
+        files_lead_on::<D, F>();
         let Some(goes_on) = self.end_newest(import, now, beside)? else {
             return Ok(Answered::nothing());
         };
@@ -340,8 +382,14 @@ impl<D: Disk + Drop, F: Folder<File = D> + Drop> Archive<D, F> {
         ensures runs { (before : Writing D) → IsNow before self.old.newest
             → IfOk result (λ answered. HasRunAgain D.Disk self.old.again.items answered before self.new.newest) }
         ensures none { self.old.newest ≡ None → (result ≡ Ok nothing) × (self.new ≡ self.old) }
+        // Events of the law lead on.
+        ensures goes { GoesBy F.names F.moment F.left_since F.is_honest D.Disk self.old.rotation.files self.old.newest
+            self.new.rotation.files self.new.newest }
         ensures rotation { self.new.rotation ≡ self.old.rotation }
     {
+        // For the proof alone.
+        files_lead_on::<D, F>();
+        records_are_steps::<D>();
         let Some(newest) = &mut self.newest else {
             return Ok(Answered::nothing());
         };
@@ -369,12 +417,20 @@ impl<D: Disk + Drop, F: Folder<File = D> + Drop> Archive<D, F> {
             × (self.new.newest ≡ None) }
         ensures stays { (before : Writing D) (newest : NewestOf D) → self.old.newest ≡ Some newest → IsNow before self.old.newest
             → result ≡ Ok None → HasNotEnded D.Disk self.old.rotation.files.out newest before self.new.newest }
+        ensures gone { (goes_on : Bool) → result ≡ Ok (Some goes_on) → self.new.newest ≡ None }
+        ensures gone_err { OnErr result (self.new.newest ≡ None) }
         ensures unread { result ≡ Ok None → import.new ≡ import.old }
         ensures none { self.old.newest ≡ None → (result ≡ Ok (Some false)) × (self.new ≡ self.old)
             × (import.new ≡ import.old) × (beside.new ≡ beside.old) }
         ensures input { import.new.input ≡ import.old.input }
+        // Events of the law lead on.
+        ensures goes { GoesBy F.names F.moment F.left_since F.is_honest D.Disk self.old.rotation.files self.old.newest
+            self.new.rotation.files self.new.newest }
         ensures rules { self.new.rotation.rules ≡ self.old.rotation.rules }
     {
+        // For the proof alone.
+        files_lead_on::<D, F>();
+        records_are_steps::<D>();
         let Some(newest) = self.newest.take() else {
             return Ok(Some(false));
         };
@@ -450,10 +506,16 @@ impl<D: Disk + Drop, F: Folder<File = D> + Drop> Archive<D, F> {
             → IfErr result (λ fault. HasStopped D.Disk fault before self.new.newest) }
         ensures memory { result ≡ Err (ArchiveFault.Input RecordFault.Memory)
             → LacksMemoryAtEnd import.old import.new (vec_capacity import.old.input.mender.room) }
+        // Events of the law lead on.
+        ensures goes { GoesBy F.names F.moment F.left_since F.is_honest D.Disk self.old.rotation.files self.old.newest
+            self.new.rotation.files self.new.newest }
         // Beside that only a line of times is written.
         ensures rest { self.new ≡ record self.old { rotation = self.new.rotation; newest = self.new.newest } }
         ensures times { self.new.rotation ≡ record self.old.rotation { last = self.new.rotation.last; written = self.new.rotation.written } }
     {
+        // For the proof alone.
+        files_lead_on::<D, F>();
+        records_are_steps::<D>();
         let Some(newest) = &mut self.newest else {
             return Ok(Taken {
                 mend: None,
@@ -476,9 +538,14 @@ impl<D: Disk + Drop, F: Folder<File = D> + Drop> Archive<D, F> {
         ensures refused { (refusal : RefusalOf) → result ≡ Err (Unended.Refused refusal)
             → IfSome self.new.newest (λ newest. is_open newest.recorder.chain ≡ true) }
         ensures none { self.old.newest ≡ None → (result ≡ Ok tt) × (self.new ≡ self.old) × (beside.new ≡ beside.old) }
+        // Events of the law lead on.
+        ensures goes { GoesBy F.names F.moment F.left_since F.is_honest D.Disk self.old.rotation.files self.old.newest
+            self.new.rotation.files self.new.newest }
         ensures rest { self.new ≡ record self.old { rotation = self.new.rotation; newest = self.new.newest } }
         ensures times { self.new.rotation ≡ record self.old.rotation { last = self.new.rotation.last; written = self.new.rotation.written } }
     {
+        // For the proof alone.
+        files_lead_on::<D, F>();
         let ended = self.end_open_newest();
         if ended.is_ok() {
             self.tell_time(now, beside);
@@ -493,8 +560,14 @@ impl<D: Disk + Drop, F: Folder<File = D> + Drop> Archive<D, F> {
         ensures refused { (refusal : RefusalOf) → result ≡ Err (Unended.Refused refusal)
             → IfSome self.new.newest (λ newest. is_open newest.recorder.chain ≡ true) }
         ensures none { self.old.newest ≡ None → (result ≡ Ok tt) × (self.new ≡ self.old) }
+        // Events of the law lead on.
+        ensures goes { GoesBy F.names F.moment F.left_since F.is_honest D.Disk self.old.rotation.files self.old.newest
+            self.new.rotation.files self.new.newest }
         ensures rest { self.new ≡ record self.old { newest = self.new.newest } }
     {
+        // For the proof alone.
+        files_lead_on::<D, F>();
+        records_are_steps::<D>();
         match &mut self.newest {
             Some(newest) => end_open(&mut newest.recorder),
             None => Ok(()),
@@ -508,15 +581,21 @@ impl<D: Disk + Drop, F: Folder<File = D> + Drop> Archive<D, F> {
         ensures gone { self.new.newest ≡ None }
         ensures failed { IfSome self.old.newest (λ newest. newest.recorder.file.failed ≡ true → result ≡ false) }
         ensures waits { IfSome self.old.newest (λ newest. 0 < newest.recorder.held → result ≡ false) }
+        // Events of the law lead on.
+        ensures goes { GoesBy F.names F.moment F.left_since F.is_honest D.Disk self.old.rotation.files self.old.newest
+            self.new.rotation.files self.new.newest }
         // If no file goes for want of room, one that has ended has its committed bytes, whatever stops, and nothing else.
         ensures ended { result ≡ true → self.old.rotation.rules.keeping.bytes ≡ None → IfSome self.old.newest (λ newest.
             F.is_honest self.old.rotation.files.folder → D.is_honest newest.recorder.file.disk
             → HasExactly D.Disk (F.file self.new.rotation.files.folder) newest.name.number
             (committed D.state newest.recorder)) }
     {
-        let Some(Newest { name, recorder, .. }) = self.newest.take() else {
+        // For the proof alone.
+        files_lead_on::<D, F>();
+        let Some(newest) = self.newest.take() else {
             return true;
         };
+        let Newest { name, recorder, .. } = newest;
         self.before = self.before.saturating_add(recorder.end());
         self.rotation.end(name, recorder, beside)
     }

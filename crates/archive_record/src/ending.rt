@@ -10,9 +10,11 @@ ghost use Rattle.ogg_command.specs.declared.command.Command.{Command as CommandO
 ghost use Rattle.ogg_command.specs.declared.refusal.Refusal.{Refusal as RefusalOf};
 ghost use Rattle.archive_record.specs.Changing.{EndsOpen, holding_all};
 ghost use Rattle.archive_record.specs.Resting.{IsAtRest};
+ghost use Rattle.archive_record.specs.Writing.{HasDone, HasGoneOn};
 
 use crate::beside::Beside;
 use disk_model::Disk;
+use feed_runner::Runner;
 use file_recorder::Recorder;
 use link_chain::is_open;
 use ogg_command::Refusal;
@@ -35,9 +37,13 @@ pub fn end_open<D: Disk>(recorder: &mut Recorder<D>) -> Result<(), Unended>
     ensures met { (first : Recording) (w : World CommandOf) (refusal : RefusalOf) → result ≡ Err (Unended.Refused refusal)
         → (after : Progress D) × (replies : List ReplyOf) × (after.now.chain ≡ recorder.new.chain)
         × EndRefused streams_in (Answers D.Disk) (progress first w recorder.old) after replies refusal }
+    // Whatever the answer, what was done is steps of the file's history.
+    ensures does { (first : Recording) (w : World CommandOf) → (after : Progress D) × (after.now ≡ recorder.new)
+        × HasDone (Answers D.Disk) (progress first w recorder.old) after }
 {
     let ended = end_streams(recorder);
-    if recorder.flush().is_err() {
+    recorder.run_flush();
+    if recorder.is_failed() {
         return Err(Unended::Failed);
     }
     ended
@@ -55,6 +61,8 @@ pub fn end_streams<D: Disk>(recorder: &mut Recorder<D>) -> Result<(), Unended>
     ensures met { (first : Recording) (w : World CommandOf) (refusal : RefusalOf) → result ≡ Err (Unended.Refused refusal)
         → (after : Progress D) × (replies : List ReplyOf) × (after.now ≡ recorder.new)
         × EndRefused streams_in (Answers D.Disk) (progress first w recorder.old) after replies refusal }
+    ensures does { (first : Recording) (w : World CommandOf) → (after : Progress D) × (after.now ≡ recorder.new)
+        × HasDone (Answers D.Disk) (progress first w recorder.old) after }
 {
     match file_recorder::end_streams(recorder) {
         Ok(()) => Ok(()),
@@ -65,8 +73,9 @@ pub fn end_streams<D: Disk>(recorder: &mut Recorder<D>) -> Result<(), Unended>
 /// Ends the streams that are open in a file, in one commit with what waits. Returns whether the next file goes on with it:
 /// if a link was open, and each of its streams was ended.
 pub(crate) fn end_held<D: Disk>(recorder: &mut Recorder<D>) -> (bool, Result<(), Unended>)
-    ensures { (before : Progress D) → before.now ≡ recorder.old → (last : Progress D) × (last.now ≡ recorder.new)
+    ensures ends { (before : Progress D) → before.now ≡ recorder.old → (last : Progress D) × (last.now ≡ recorder.new)
         × EndsOpen D.Disk (holding_all before) last result.0 }
+    ensures does { (w : World CommandOf) → HasGoneOn D.Disk w recorder.old recorder.new }
 {
     let was_open = is_open(recorder.streams());
     recorder.hold_all();

@@ -61,6 +61,8 @@ impl<F: Folder> Files<F> {
         // All files are known, and no stop takes one away or brings another back.
         ensures all { IfOk result (λ files. F.is_honest folder
             → numbers_of files.files ≡ listed (F.names folder)) }
+        ensures listed { IfOk result (λ files. F.is_honest folder
+            → numbers_of files.files ≡ listed (F.names files.folder)) }
         ensures names { IfOk result (λ files. F.is_honest folder
             → F.names files.folder ≡ synced (F.names folder)) }
         ensures files { IfOk result (λ files. F.is_honest folder → F.file files.folder ≡ F.file folder) }

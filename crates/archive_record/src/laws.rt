@@ -21,6 +21,7 @@ ghost use Rattle.archive_history.specs.Archive.{Archive as Account, Newest as Ne
 ghost use Rattle.file_recorder.specs.Steps.{Stands};
 ghost use Rattle.ogg_command.specs.declared.command.Command.{Command as CommandOf};
 ghost use Rattle.archive_record.specs.Account.{LeadsTo};
+ghost use Rattle.archive_record.specs.Leading.{CallsLeadOn};
 ghost use Rattle.archive_record.specs.Changing.{GoesOver, HasBegun, HasNotEnded, IsReopened, IsSetAside};
 ghost use Rattle.archive_record.specs.Recorded.{AreCalled, Begins, Call, Came, Flushed, GiveOn, HasKept, HaveKept, IsRecordedOver, Looked, Reopened, SetAside, Took, Unended, WentOver, Works, came_in, mends_of, more_of, pages_of};
 ghost use Rattle.archive_record.specs.Stepping.{HasFinished, HasFlushed, HasStepped, input_of};
@@ -29,11 +30,11 @@ ghost use Rattle.archive_record.specs.declared.newest.Newest.{Newest as NewestOf
 
 use crate::newest::Newest;
 use archive_folder::Folder;
-use archive_history::{calls_lead_on, events_lead_on};
+use archive_history::{calls_are_events, calls_lead_on, events_lead_on};
 use disk_model::Disk;
 use feed_replies::Reply;
 use feed_runner::Runner;
-use file_recorder::Recorded;
+use file_recorder::{Recorded, images_show_one_recording};
 use import_mend::{commands_begin_links_without_a_skeleton, commands_hold_sound_links};
 use import_record::{
     pages_that_come_are_the_good_pages, recordings_are_runs_of_mended_commands,
@@ -164,6 +165,15 @@ pub fn records_lead_on<D: Disk + Drop, F: Folder<File = D> + Drop>()
         × (b.ended ≡ a.ended) × (after file.name.number ≡ last.progress.now.file.disk) × (F.names folder ≡ names b)
         × LeadsTo F.names F.moment F.left_since D.Disk a folder disks b folder after × Stands D.Disk last.progress }
 {
+    files_lead_on::<D, F>();
+}
+
+/// What is done with the files of an archive leads from one account of its folder to another.
+pub(crate) fn files_lead_on<D: Disk, F: Folder<File = D>>()
+    ensures { CallsLeadOn F.names F.moment F.left_since D.Disk }
+{
+    calls_are_events::<Recorded>();
     calls_lead_on::<D, F, Recorded>();
     events_lead_on::<D, F, Recorded>();
+    images_show_one_recording();
 }

@@ -45,6 +45,22 @@ impl<D: Disk> Newest<D> {
         }
     }
 
+    /// A file that was opened again: its last link is joined there, if it is open still.
+    pub(crate) fn again(name: FileName, recorder: Recorder<D>, join: Option<Join>) -> Newest<D>
+        ensures { result ≡ record { name = name; recorder = recorder; join = result.join } }
+    {
+        let join = if is_open(recorder.streams()) {
+            join
+        } else {
+            None
+        };
+        Newest {
+            name,
+            recorder,
+            join,
+        }
+    }
+
     /// Whether a link more would be refused, and none is open.
     pub(crate) fn is_full(&self) -> bool
         ensures { result ≡ takes_no_link self.now.recorder.chain }

@@ -1,20 +1,24 @@
 //! The recording goes on after the disk has failed.
-ghost use Rattle.std.specs.Prelude.{◌≡◌, ◌⊎◌, IfOk, List, None, Some, Ok, false, ℕ};
+ghost use Rattle.std.specs.Prelude.{◌≡◌, ◌⊎◌, ◌↔◌, IfOk, IfSome, List, None, Some, Ok, false, ℕ};
+ghost use Rattle.archive_history.specs.Archive.{Archive as Account};
+ghost use Rattle.ogg_command.specs.declared.command.Command.{Command as CommandOf};
 ghost use Rattle.import_record.specs.Running.{nothing};
 ghost use Rattle.archive_record.specs.Changing.{IsReopened, IsSetAside};
+ghost use Rattle.archive_record.specs.Reaching.{AreAt, ComesBack, GoesBy, GoesOnFrom, WritesIt};
 ghost use Rattle.archive_record.specs.Recovering.{IsGivenBack};
 ghost use Rattle.archive_record.specs.declared.newest.Newest.{Newest as NewestOf};
 
 use crate::archive::{Archive, ArchiveFault, serials_of};
 use crate::beside::Beside;
 use crate::damage::Damage;
+use crate::laws::files_lead_on;
 use crate::newest::Newest;
 use archive_folder::{FileName, Folder};
 use archive_times::Join;
 use disk_model::{Disk, Memory};
+use file_recorder::records_are_steps;
 use gate_file::OpenFault;
 use import_record::{Answered, ImportRun, RecordFault, run_all};
-use link_chain::is_open;
 use std::io;
 
 /// A file whose disk has failed: it is with the folder.
@@ -46,8 +50,13 @@ impl<D: Disk + Drop, F: Folder<File = D> + Drop> Archive<D, F> {
             import.old import.new answered self.new.newest) }
         ensures none { self.old.newest ≡ None → (result ≡ Ok nothing) × (self.new ≡ self.old)
             × (import.new ≡ import.old) × (beside.new ≡ beside.old) }
+        // Events of the law lead on.
+        ensures goes { GoesBy F.names F.moment F.left_since F.is_honest D.Disk self.old.rotation.files self.old.newest
+            self.new.rotation.files self.new.newest }
         ensures rules { self.new.rotation.rules ≡ self.old.rotation.rules }
     {
+        // For the proof alone.
+        files_lead_on::<D, F>();
         let committed = self.end();
         let Some(failed) = self.give_back_newest() else {
             return Ok(Answered::nothing());
@@ -67,13 +76,20 @@ impl<D: Disk + Drop, F: Folder<File = D> + Drop> Archive<D, F> {
         ensures given { IsGivenBack self.old.newest result }
         ensures taken { self.new.newest ≡ None }
         ensures none { self.old.newest ≡ None → self.new ≡ self.old }
+        // Events of the law lead on: the file may be opened again.
+        ensures goes { IfSome result (λ failed. F.is_honest self.old.rotation.files.folder → (a : Account CommandOf) (disks : ℕ → D)
+            → AreAt F.names D.Disk self.old.rotation.files a disks → WritesIt D.Disk self.old.rotation.files self.old.newest a disks
+            → ComesBack F.names F.moment F.left_since D.Disk F.file self.old.rotation.files a disks failed.name.number
+            self.new.rotation.files) }
+        ensures honest { F.is_honest self.old.rotation.files.folder ↔ F.is_honest self.new.rotation.files.folder }
         ensures rules { self.new.rotation.rules ≡ self.old.rotation.rules }
     {
+        let newest = self.newest.take()?;
         let Newest {
             name,
             recorder,
             join,
-        } = self.newest.take()?;
+        } = newest;
         let (serials, end) = (serials_of(self.alloc, &recorder), recorder.end());
         self.rotation.give_back(name, recorder.give_back());
         Some(Failed {
@@ -109,8 +125,13 @@ impl<D: Disk + Drop, F: Folder<File = D> + Drop> Archive<D, F> {
         ensures aside { (taken : List ℕ) → self.old.newest ≡ None → IfOk failed.serials (λ serials. serials.items ≡ taken)
             → IfOk result (λ answered. IsSetAside D.Disk self.old.rotation.rules.keeping.bytes taken
             import.old import.new answered self.new.newest) }
+        // Events of the law lead on, from the file that was given back.
+        ensures goes { self.old.newest ≡ None → GoesOnFrom F.names F.moment F.left_since F.is_honest D.Disk F.file
+            self.old.rotation.files failed.name.number self.new.rotation.files self.new.newest }
         ensures rules { self.new.rotation.rules ≡ self.old.rotation.rules }
     {
+        // For the proof alone.
+        files_lead_on::<D, F>();
         let Failed {
             name,
             serials,
@@ -134,14 +155,16 @@ impl<D: Disk + Drop, F: Folder<File = D> + Drop> Archive<D, F> {
         ensures opened { (taken : List ℕ) → self.old.newest ≡ None → IfOk failed.serials (λ serials. serials.items ≡ taken)
             → IfOk result (λ answered. IsReopened D.Disk failed.name import.old import.new answered self.new.newest
             ⊎ IsSetAside D.Disk self.old.rotation.rules.keeping.bytes taken import.old import.new answered self.new.newest) }
+        // Events of the law lead on, from the file that was given back.
+        ensures goes { self.old.newest ≡ None → GoesOnFrom F.names F.moment F.left_since F.is_honest D.Disk F.file
+            self.old.rotation.files failed.name.number self.new.rotation.files self.new.newest }
         ensures rules { self.new.rotation.rules ≡ self.old.rotation.rules }
     {
+        // For the proof alone.
+        files_lead_on::<D, F>();
         match self.rotation.open_again(beside) {
             Ok(recorder) => {
-                let mut newest = Newest::on(failed.name, recorder);
-                if is_open(newest.recorder.streams()) {
-                    newest.join = failed.join;
-                }
+                let newest = Newest::again(failed.name, recorder, failed.join);
                 self.rotation
                     .opened(newest.name, newest.recorder.end(), beside);
                 self.resume(import, newest)
@@ -159,8 +182,14 @@ impl<D: Disk + Drop, F: Folder<File = D> + Drop> Archive<D, F> {
     ) -> Result<Answered, ArchiveFault>
         ensures goes_on { (newest.recorder.held ≡ 0) × (newest.recorder.file.failed ≡ false)
             → IfOk result (λ answered. IsReopened D.Disk newest.name import.old import.new answered self.new.newest) }
+        // Events of the law lead on, from the file that is written then.
+        ensures goes { self.old.newest ≡ None → GoesBy F.names F.moment F.left_since F.is_honest D.Disk
+            self.old.rotation.files (Some newest) self.new.rotation.files self.new.newest }
         ensures rotation { self.new.rotation ≡ self.old.rotation }
     {
+        // For the proof alone.
+        files_lead_on::<D, F>();
+        records_are_steps::<D>();
         let serials = newest.recorder.serials().as_slice();
         let commands = match import.resume(newest.recorder.streams(), serials) {
             Ok(commands) => commands,

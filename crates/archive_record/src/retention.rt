@@ -4,12 +4,14 @@ ghost use Rattle.std.specs.Prelude.{◌≡◌, ◌↔◌, ◌+◌, ◌<◌, ◌+
 ghost use Rattle.archive_folder.specs.declared.names.FileName.{FileName as FileNameOf};
 ghost use Rattle.archive_history.specs.Archive.{Archive as Account, names};
 ghost use Rattle.ogg_command.specs.declared.command.Command.{Command as CommandOf};
-ghost use Rattle.archive_record.specs.Account.{IsHandedOut, LeadsTo, StaysWritten};
+ghost use Rattle.archive_record.specs.Account.{LeadsTo, NewestIsLast, StaysWritten};
+ghost use Rattle.archive_record.specs.Reaching.{Reaches};
 ghost use Rattle.archive_record.specs.Retention.{IsLeftOf, MayGo, how_many, throws};
 
 use crate::archive::ArchiveFault;
 use crate::beside::Beside;
 use crate::files::Files;
+use crate::laws::files_lead_on;
 use crate::naming::name_of;
 use crate::rotation::Rotation;
 use archive_folder::{FileName, Folder};
@@ -67,6 +69,7 @@ fn look<F: Folder>(files: &mut Files<F>, name: FileName, last: u64) -> Held
         → F.names files.old.folder ≡ names a
         → LeadsTo F.names F.moment F.left_since F.File.Disk a files.old.folder disks a files.new.folder disks }
     ensures names { F.is_honest files.old.folder → F.names files.new.folder ≡ F.names files.old.folder }
+    ensures places { F.is_honest files.old.folder → F.file files.new.folder ≡ F.file files.old.folder }
     ensures honest { F.is_honest files.old.folder ↔ F.is_honest files.new.folder }
     ensures files { files.new.files ≡ files.old.files }
     ensures out { files.new.out ≡ files.old.out }
@@ -89,10 +92,18 @@ impl<D: Disk + Drop, F: Folder<File = D> + Drop> Rotation<F> {
     /// What stands under each name is noted, in the order of the files, if something may have to be thrown away.
     pub(crate) fn look_at_all(&mut self, now: u64) -> Result<(), ArchiveFault>
         requires { self.old.held.items ≡ [] }
+        // Events of the law lead there, to the same account.
+        ensures leads { F.is_honest self.old.files.folder → (a : Account CommandOf) (disks : ℕ → D) → F.names self.old.files.folder ≡ names a
+            → Reaches F.names F.moment F.left_since D.Disk a self.old.files.folder disks a self.new.files.folder disks }
+        ensures places { F.is_honest self.old.files.folder → F.file self.new.files.folder ≡ F.file self.old.files.folder }
+        ensures honest { F.is_honest self.old.files.folder ↔ F.is_honest self.new.files.folder }
+        ensures files { self.new.files.files ≡ self.old.files.files }
         ensures paired { OnOk result (throws self.old.rules.keeping ≡ true → length self.new.held.items ≡ length self.new.files.files) }
         ensures out { self.new.files.out ≡ self.old.files.out }
         ensures rules { self.new.rules ≡ self.old.rules }
     {
+        // For the proof alone.
+        files_lead_on::<D, F>();
         if !throws(self.rules.keeping) {
             return Ok(());
         }
@@ -114,7 +125,7 @@ impl<D: Disk + Drop, F: Folder<File = D> + Drop> Rotation<F> {
     pub(crate) fn look_at_newest(&mut self, now: u64) -> Result<(), ArchiveFault>
         // Events of the law lead there: the file that is written stays so.
         ensures leads { F.is_honest self.old.files.folder → (a : Account CommandOf) (disks : ℕ → D)
-            → IsHandedOut self.old.files.out a → F.names self.old.files.folder ≡ names a
+            → F.names self.old.files.folder ≡ names a
             → StaysWritten F.names F.moment F.left_since D.Disk a self.old.files.folder disks self.new.files.folder }
         ensures honest { F.is_honest self.old.files.folder ↔ F.is_honest self.new.files.folder }
         ensures paired { OnOk result (throws self.old.rules.keeping ≡ true
@@ -152,7 +163,7 @@ impl<D: Disk + Drop, F: Folder<File = D> + Drop> Rotation<F> {
     pub fn throw_away<B: Beside>(&mut self, now: u64, beside: &mut B)
         // Events of the law lead there: the file that is written stays so.
         ensures leads { F.is_honest self.old.files.folder → (a : Account CommandOf) (disks : ℕ → D)
-            → IsHandedOut self.old.files.out a → F.names self.old.files.folder ≡ names a
+            → NewestIsLast self.old.files.files a → F.names self.old.files.folder ≡ names a
             → StaysWritten F.names F.moment F.left_since D.Disk a self.old.files.folder disks self.new.files.folder }
         ensures honest { F.is_honest self.old.files.folder ↔ F.is_honest self.new.files.folder }
         ensures left { IsLeftOf self.old.files.files self.new.files.files }
@@ -182,8 +193,9 @@ impl<D: Disk + Drop, F: Folder<File = D> + Drop> Rotation<F> {
     pub fn make_room<B: Beside>(&mut self, beside: &mut B) -> bool
         // Events of the law lead there: the file that is written stays so.
         ensures leads { F.is_honest self.old.files.folder → (a : Account CommandOf) (disks : ℕ → D)
-            → IsHandedOut self.old.files.out a → F.names self.old.files.folder ≡ names a
+            → NewestIsLast self.old.files.files a → F.names self.old.files.folder ≡ names a
             → StaysWritten F.names F.moment F.left_since D.Disk a self.old.files.folder disks self.new.files.folder }
+        ensures places { F.is_honest self.old.files.folder → F.file self.new.files.folder ≡ F.file self.old.files.folder }
         ensures honest { F.is_honest self.old.files.folder ↔ F.is_honest self.new.files.folder }
         ensures bound { self.old.rules.keeping.bytes ≡ None → (result ≡ false) × (self.new ≡ self.old) × (beside.new ≡ beside.old) }
         ensures left { IsLeftOf self.old.files.files self.new.files.files }
@@ -212,8 +224,9 @@ impl<D: Disk + Drop, F: Folder<File = D> + Drop> Rotation<F> {
     fn throw_one<B: Beside>(&mut self, going: Going, beside: &mut B) -> bool
         // Events of the law lead there: the file that is written stays so.
         ensures leads { F.is_honest self.old.files.folder → (a : Account CommandOf) (disks : ℕ → D)
-            → IsHandedOut self.old.files.out a → F.names self.old.files.folder ≡ names a
+            → NewestIsLast self.old.files.files a → F.names self.old.files.folder ≡ names a
             → StaysWritten F.names F.moment F.left_since D.Disk a self.old.files.folder disks self.new.files.folder }
+        ensures places { F.is_honest self.old.files.folder → F.file self.new.files.folder ≡ F.file self.old.files.folder }
         ensures honest { F.is_honest self.old.files.folder ↔ F.is_honest self.new.files.folder }
         ensures left { IsLeftOf self.old.files.files self.new.files.files }
         // What is noted of the files goes with them.

@@ -1,15 +1,16 @@
 //! The files of a folder, begun and ended in turn: the next one is begun when the newest is over, and old ones go.
-ghost use Rattle.std.specs.Prelude.{◌≡◌, ◌<◌, [], ◌/◌, ◌⊎◌, ◌↔◌, ◌++◌, ℕ, IfOk, IfErr, IfSome, IsTrue, OnOk, OnErr, None, Some, true, false};
+ghost use Rattle.std.specs.Prelude.{◌≡◌, ◌<◌, [], ◌/◌, ◌⊎◌, ◌↔◌, ◌++◌, ◌∷◌, List, ℕ, IfOk, IfErr, IfSome, IsTrue, OnOk, OnErr, None, Some, Ok, true, false};
 ghost use Rattle.disk_model.specs.Image.{settled};
 ghost use Rattle.archive_names.specs.Plan.{IsOver};
 ghost use Rattle.archive_times.specs.Asked.{IsDue, IsUntold};
-ghost use Rattle.archive_folder.specs.declared.names.Fate.TheVariants.{Stays};
+ghost use Rattle.archive_folder.specs.declared.names.FileName.{FileName as FileNameOf};
 ghost use Rattle.archive_history.specs.Archive.{Archive as Account, Newest as NewestOf, names};
-ghost use Rattle.file_recorder.specs.Recorder.{IsIn, committed, staged};
+ghost use Rattle.file_recorder.specs.Recorder.{RecorderState, committed, staged};
 ghost use Rattle.ogg_command.specs.declared.command.Command.{Command as CommandOf};
-ghost use Rattle.archive_record.specs.Account.{WritesNew, WritesNone};
+ghost use Rattle.archive_record.specs.Account.{LeadsTo, Stands, WritesNew, WritesNone};
 ghost use Rattle.archive_record.specs.Files.{AllKept};
 ghost use Rattle.archive_record.specs.Filing.{HasExactly, IsNew};
+ghost use Rattle.archive_record.specs.Reaching.{AreAt, ComesBack, ComesFree, ComesWritten, IsAtHand, IsBegun, IsWaiting, IsWritten, MayStart};
 ghost use Rattle.archive_record.specs.Resting.{IsAtRest};
 ghost use Rattle.archive_record.specs.Rotating.{with_period};
 ghost use Rattle.archive_record.specs.Spelling.{name_of};
@@ -18,7 +19,10 @@ use crate::archive::ArchiveFault;
 use crate::beside::Beside;
 use crate::damage::Damage;
 use crate::files::{BeginFault, Files};
-use crate::filing::{Left, end_file, end_group, first_recorder, give_back, open_last, open_newest};
+use crate::filing::{
+    Left, end_file, end_group, end_last, first_recorder, give_back, open_last, open_newest,
+};
+use crate::laws::files_lead_on;
 use crate::naming::name_of;
 use archive_folder::{FileName, Folder};
 use archive_names::{Held, Keeping, Limits, is_over};
@@ -65,9 +69,17 @@ impl<D: Disk + Drop, F: Folder<File = D> + Drop> Rotation<F> {
         now: u64,
     ) -> Result<Rotation<F>, ArchiveFault>
         requires { F.is_honest folder → AllKept (F.names folder) (F.file folder) }
+        // Events of the law lead on: the folder is synced, and the last file may be opened, if there is one.
+        ensures leads { IfOk result (λ rotation. F.is_honest folder → (a : Account CommandOf) (disks : ℕ → D)
+            → Stands F.names D.Disk a folder disks → MayStart F.file D.Disk folder a disks
+            → (b : Account CommandOf) × IsWaiting F.file D.Disk rotation.files b disks × AreAt F.names D.Disk rotation.files b disks
+            × LeadsTo F.names F.moment F.left_since D.Disk a folder disks b rotation.files.folder disks) }
+        ensures honest { IfOk result (λ rotation. F.is_honest folder ↔ F.is_honest rotation.files.folder) }
         ensures free { IfOk result (λ rotation. rotation.files.out ≡ None) }
         ensures rules { IfOk result (λ rotation. rotation.rules ≡ rules) }
     {
+        // For the proof alone.
+        files_lead_on::<D, F>();
         let files = match Files::open(alloc, folder) {
             Ok(files) => files,
             Err((DiskFault, _)) => return Err(ArchiveFault::Folder),
@@ -101,8 +113,21 @@ impl<D: Disk + Drop, F: Folder<File = D> + Drop> Rotation<F> {
     ) -> Result<Option<(FileName, Recorder<D>)>, ArchiveFault>
         // Only what rests is recorded into.
         ensures rests { IfOk result (λ newest. IfSome newest (λ (file, r). IsAtRest r)) }
+        ensures empty { self.old.files.files ≡ [] → (result ≡ Ok None) × (self.new.files ≡ self.old.files) }
+        // Events of the law lead on, if the last file may be opened: the recorder writes it, or no file is written.
+        ensures leads { IfOk result (λ newest. IfSome newest (λ (file, r). F.is_honest self.old.files.folder
+            → (a : Account CommandOf) (last : NewestOf CommandOf) (disks : ℕ → D) → AreAt F.names D.Disk self.old.files a disks
+            → IsAtHand F.file D.Disk self.old.files.folder a last disks
+            → ComesWritten F.names F.moment F.left_since D.Disk self.old.files a disks file.number r self.new.files)) }
+        ensures unopened { result ≡ Ok None → F.is_honest self.old.files.folder
+            → (a : Account CommandOf) (last : NewestOf CommandOf) (disks : ℕ → D) → AreAt F.names D.Disk self.old.files a disks
+            → IsAtHand F.file D.Disk self.old.files.folder a last disks
+            → ComesFree F.names F.moment F.left_since D.Disk self.old.files a disks self.new.files }
+        ensures honest { F.is_honest self.old.files.folder ↔ F.is_honest self.new.files.folder }
         ensures rules { self.new.rules ≡ self.old.rules }
     {
+        // For the proof alone.
+        files_lead_on::<D, F>();
         for _ in 0..self.tries() {
             match open_newest(self.alloc, &mut self.files, self.rules.most) {
                 Ok(newest) => return Ok(newest),
@@ -149,8 +174,18 @@ impl<D: Disk + Drop, F: Folder<File = D> + Drop> Rotation<F> {
         // Nothing waits in it, and nothing was recorded into it, if no file goes for want of room.
         ensures works { IfOk result (λ (file, r). (r.held ≡ 0) × (r.file.failed ≡ false)) }
         ensures unwritten { self.old.rules.keeping.bytes ≡ None → IfOk result (λ (file, r). IsNew D.Disk r) }
+        // Events of the law lead on: the recorder writes the new file. After a fault no file is written.
+        ensures leads { IfOk result (λ (file, r). F.is_honest self.old.files.folder → (a : Account CommandOf) (disks : ℕ → D)
+            → AreAt F.names D.Disk self.old.files a disks → a.newest ≡ None
+            → ComesWritten F.names F.moment F.left_since D.Disk self.old.files a disks file.number r self.new.files) }
+        ensures unbegun { OnErr result (F.is_honest self.old.files.folder → (a : Account CommandOf) (disks : ℕ → D)
+            → AreAt F.names D.Disk self.old.files a disks → a.newest ≡ None
+            → ComesFree F.names F.moment F.left_since D.Disk self.old.files a disks self.new.files) }
+        ensures honest { F.is_honest self.old.files.folder ↔ F.is_honest self.new.files.folder }
         ensures rules { self.new.rules ≡ self.old.rules }
     {
+        // For the proof alone.
+        files_lead_on::<D, F>();
         let begun = i64::try_from(now / 1000).unwrap_or(i64::MAX);
         let (name, disk) = self.make_file(begun, goes_on, beside)?;
         self.look_at_newest(now)?;
@@ -172,6 +207,11 @@ impl<D: Disk + Drop, F: Folder<File = D> + Drop> Rotation<F> {
         ensures leads { IfOk result (λ (file, disk). F.is_honest self.old.files.folder → (a : Account CommandOf) (disks : ℕ → D)
             → a.newest ≡ None → F.names self.old.files.folder ≡ names a
             → WritesNew F.names F.moment F.left_since D.Disk a self.old.files.folder disks file.number disk self.new.files.folder) }
+        ensures unmade { OnErr result (F.is_honest self.old.files.folder → (a : Account CommandOf) (disks : ℕ → D)
+            → a.newest ≡ None → F.names self.old.files.folder ≡ names a
+            → WritesNone F.names F.moment F.left_since D.Disk a self.old.files.folder disks self.new.files.folder) }
+        ensures empty { IfOk result (λ (file, disk). F.is_honest self.old.files.folder → D.is_honest disk) }
+        ensures newest { IfOk result (λ (file, disk). (front : List FileNameOf) × (self.new.files.files ≡ front ++ file ∷ [])) }
         ensures out { IfOk result (λ (file, disk). self.new.files.out ≡ Some file.number) }
         ensures honest { F.is_honest self.old.files.folder ↔ F.is_honest self.new.files.folder }
         ensures fresh { IfOk result (λ (file, disk). D.is_honest disk → D.state disk ≡ settled []) }
@@ -207,8 +247,18 @@ impl<D: Disk + Drop, F: Folder<File = D> + Drop> Rotation<F> {
         requires { D.is_honest disk → D.state disk ≡ settled [] }
         ensures works { IfOk result (λ recorder. (recorder.held ≡ 0) × (recorder.file.failed ≡ false)) }
         ensures unwritten { self.old.rules.keeping.bytes ≡ None → IfOk result (IsNew D.Disk) }
+        // Events of the law lead on: the recorder writes the file. After a fault no file is written.
+        ensures leads { IfOk result (λ recorder. F.is_honest self.old.files.folder → (a : Account CommandOf) (file : NewestOf CommandOf)
+            (disks : ℕ → D) → AreAt F.names D.Disk self.old.files a disks → IsBegun D.Disk a file name.number disk disks
+            → ComesWritten F.names F.moment F.left_since D.Disk self.old.files a disks name.number recorder self.new.files) }
+        ensures unopened { OnErr result (F.is_honest self.old.files.folder → (a : Account CommandOf) (file : NewestOf CommandOf)
+            (disks : ℕ → D) → AreAt F.names D.Disk self.old.files a disks → IsBegun D.Disk a file name.number disk disks
+            → ComesFree F.names F.moment F.left_since D.Disk self.old.files a disks self.new.files) }
+        ensures honest { F.is_honest self.old.files.folder ↔ F.is_honest self.new.files.folder }
         ensures rules { self.new.rules ≡ self.old.rules }
     {
+        // For the proof alone.
+        files_lead_on::<D, F>();
         if !self.files.is_out(name.number) {
             return Err(ArchiveFault::Folder);
         }
@@ -227,6 +277,14 @@ impl<D: Disk + Drop, F: Folder<File = D> + Drop> Rotation<F> {
     /// The same, on a file that was given back since there was no room.
     fn next_recorder<B: Beside>(&mut self, beside: &mut B) -> Result<Recorder<D>, ArchiveFault>
         ensures works { IfOk result (λ recorder. (recorder.held ≡ 0) × (recorder.file.failed ≡ false)) }
+        // Events of the law lead on: the recorder writes the newest file. After a fault it may be opened again.
+        ensures leads { IfOk result (λ r. F.is_honest self.old.files.folder → (a : Account CommandOf) (newest : NewestOf CommandOf)
+            (disks : ℕ → D) → AreAt F.names D.Disk self.old.files a disks → IsAtHand F.file D.Disk self.old.files.folder a newest disks
+            → ComesWritten F.names F.moment F.left_since D.Disk self.old.files a disks newest.name.number r self.new.files) }
+        ensures unopened { OnErr result (F.is_honest self.old.files.folder → (a : Account CommandOf) (newest : NewestOf CommandOf)
+            (disks : ℕ → D) → AreAt F.names D.Disk self.old.files a disks → IsAtHand F.file D.Disk self.old.files.folder a newest disks
+            → ComesBack F.names F.moment F.left_since D.Disk F.file self.old.files a disks newest.name.number self.new.files) }
+        ensures honest { F.is_honest self.old.files.folder ↔ F.is_honest self.new.files.folder }
         ensures rules { self.new.rules ≡ self.old.rules }
     {
         match self.open_again(beside) {
@@ -248,21 +306,54 @@ impl<D: Disk + Drop, F: Folder<File = D> + Drop> Rotation<F> {
         ensures ended { result ≡ true → self.old.rules.keeping.bytes ≡ None → F.is_honest self.old.files.folder
             → D.is_honest recorder.file.disk
             → HasExactly D.Disk (F.file self.new.files.folder) name.number (committed D.state recorder) }
+        // Events of the law lead on: no file is written.
+        ensures leads { F.is_honest self.old.files.folder → (a : Account CommandOf) (file : NewestOf CommandOf) (disks : ℕ → D)
+            → AreAt F.names D.Disk self.old.files a disks → IsWritten D.Disk a file name.number recorder disks
+            → ComesFree F.names F.moment F.left_since D.Disk self.old.files a disks self.new.files }
+        ensures honest { F.is_honest self.old.files.folder ↔ F.is_honest self.new.files.folder }
     {
+        // For the proof alone.
+        files_lead_on::<D, F>();
         let end = recorder.end();
-        // What is lost isn't in the file that is opened again.
-        let is_whole = !recorder.is_failed() && recorder.held() == 0;
         if !self.files.is_out(name.number) {
             beside.damaged(name, Damage::Open(OpenFault::Disk));
             return false;
         }
-        if end_file(&mut self.files, name, recorder) || (is_whole && self.end_again(name, beside)) {
+        let is_cut = self.end_out(name, recorder, beside);
+        if is_cut {
             beside.ended(name, end);
-            true
         } else {
             beside.damaged(name, Damage::Open(OpenFault::Disk));
-            false
         }
+        is_cut
+    }
+
+    /// Ends a file that is handed out. If no room is left for that, and nothing in it is lost, the oldest files go.
+    fn end_out<B: Beside>(&mut self, name: FileName, recorder: Recorder<D>, beside: &mut B) -> bool
+        requires { self.old.files.out ≡ Some name.number }
+        ensures failed { recorder.file.failed ≡ true → result ≡ false }
+        ensures waits { 0 < recorder.held → result ≡ false }
+        ensures none { self.new.files.out ≡ None }
+        ensures ended { result ≡ true → self.old.rules.keeping.bytes ≡ None → F.is_honest self.old.files.folder
+            → D.is_honest recorder.file.disk
+            → HasExactly D.Disk (F.file self.new.files.folder) name.number (committed D.state recorder) }
+        // Events of the law lead on: no file is written.
+        ensures leads { F.is_honest self.old.files.folder → (a : Account CommandOf) (file : NewestOf CommandOf) (disks : ℕ → D)
+            → AreAt F.names D.Disk self.old.files a disks → IsWritten D.Disk a file name.number recorder disks
+            → ComesFree F.names F.moment F.left_since D.Disk self.old.files a disks self.new.files }
+        ensures honest { F.is_honest self.old.files.folder ↔ F.is_honest self.new.files.folder }
+    {
+        // For the proof alone.
+        files_lead_on::<D, F>();
+        // What is lost isn't in the file that is opened again.
+        if recorder.is_failed() || recorder.held() > 0 {
+            end_file(&mut self.files, name, recorder);
+            return false;
+        }
+        if end_file(&mut self.files, name, recorder) {
+            return true;
+        }
+        self.end_again(name, beside)
     }
 
     /// Commits what waits in a file and ends it, with two syncs in all: it is cut to its pages and given back, and nothing
@@ -282,21 +373,30 @@ impl<D: Disk + Drop, F: Folder<File = D> + Drop> Rotation<F> {
         // A file that has ended has what was committed and what waited, whatever stops, and nothing else.
         ensures ended { OnOk result (F.is_honest self.old.files.folder → D.is_honest recorder.file.disk
             → HasExactly D.Disk (F.file self.new.files.folder) name.number (committed D.state recorder ++ staged D.state recorder)) }
-        // Events of the law lead there: what waited is kept, the file is sealed, it has ended, and it is given back.
-        ensures leads { OnOk result (F.is_honest self.old.files.folder → D.is_honest recorder.file.disk
-            → (a : Account CommandOf) (file : NewestOf CommandOf) (disks : ℕ → D)
-            → a.newest ≡ Some file → file.name.fate ≡ Stays → IsIn D.Disk [] file.world recorder
-            → disks file.name.number ≡ recorder.file.disk → F.names self.old.files.folder ≡ names a
-            → WritesNone F.names F.moment F.left_since D.Disk a self.old.files.folder disks self.new.files.folder) }
+        // Events of the law lead there: what waited is kept, the file is sealed, it has ended, and it is given back. After a
+        // fault the recorder that is handed back writes it.
+        ensures leads { OnOk result (F.is_honest self.old.files.folder → (a : Account CommandOf) (file : NewestOf CommandOf) (disks : ℕ → D)
+            → AreAt F.names D.Disk self.old.files a disks → IsWritten D.Disk a file name.number recorder disks
+            → ComesFree F.names F.moment F.left_since D.Disk self.old.files a disks self.new.files) }
+        ensures unended { IfErr result (λ back. (a : Account CommandOf) (file : NewestOf CommandOf) (disks : ℕ → D)
+            → AreAt F.names D.Disk self.old.files a disks → IsWritten D.Disk a file name.number recorder disks
+            → self.old.files.out ≡ Some name.number
+            → ComesWritten F.names F.moment F.left_since D.Disk self.old.files a disks name.number back self.new.files) }
+        ensures honest { F.is_honest self.old.files.folder ↔ F.is_honest self.new.files.folder }
         ensures free { OnOk result (self.new.files.out ≡ None) }
         ensures rules { self.new.rules ≡ self.old.rules }
         ensures same { OnErr result (self.new ≡ self.old) }
     {
+        // For the proof alone.
+        files_lead_on::<D, F>();
         let end = recorder.length();
         if !self.files.is_out(name.number) {
             return Err(recorder);
         }
-        end_group(&mut self.files, name, recorder)?;
+        match end_group(&mut self.files, name, recorder) {
+            Ok(()) => {}
+            Err(recorder) => return Err(recorder),
+        }
         self.tell_time(end, join, now, beside);
         beside.ended(name, end);
         Ok(())
@@ -306,18 +406,22 @@ impl<D: Disk + Drop, F: Folder<File = D> + Drop> Rotation<F> {
     /// may go. Returns whether it is the one of this name, and is cut.
     fn end_again<B: Beside>(&mut self, name: FileName, beside: &mut B) -> bool
         requires { self.old.files.out ≡ None }
+        // Events of the law lead on: no file is written.
+        ensures leads { F.is_honest self.old.files.folder → (a : Account CommandOf) (newest : NewestOf CommandOf) (disks : ℕ → D)
+            → AreAt F.names D.Disk self.old.files a disks → IsAtHand F.file D.Disk self.old.files.folder a newest disks
+            → ComesFree F.names F.moment F.left_since D.Disk self.old.files a disks self.new.files }
+        ensures honest { F.is_honest self.old.files.folder ↔ F.is_honest self.new.files.folder }
         ensures none { self.new.files.out ≡ None }
         ensures bound { self.old.rules.keeping.bytes ≡ None → result ≡ false }
     {
+        // For the proof alone.
+        files_lead_on::<D, F>();
         for _ in 0..self.tries() {
             if !self.make_room(beside) {
                 return false;
             }
-            match open_last(self.alloc, &mut self.files) {
-                Ok((newest, recorder)) => if end_file(&mut self.files, newest, recorder) {
-                    return newest.number == name.number;
-                },
-                Err(_) => {}
+            if let Some(number) = end_last(self.alloc, &mut self.files) {
+                return number == name.number;
             }
         }
         false
@@ -326,9 +430,17 @@ impl<D: Disk + Drop, F: Folder<File = D> + Drop> Rotation<F> {
     /// Gives the newest file back as its disk stands. Nothing is written to it.
     pub fn give_back(&mut self, name: FileName, disk: D)
         ensures free { self.old.files.out ≡ Some name.number → self.new.files.out ≡ None }
+        // Events of the law lead on: the file may be opened again.
+        ensures leads { F.is_honest self.old.files.folder → (a : Account CommandOf) (file : NewestOf CommandOf) (disks : ℕ → D)
+            (recorder : RecorderState D) → AreAt F.names D.Disk self.old.files a disks
+            → IsWritten D.Disk a file name.number recorder disks → recorder.file.disk ≡ disk → self.old.files.out ≡ Some name.number
+            → ComesBack F.names F.moment F.left_since D.Disk F.file self.old.files a disks name.number self.new.files }
+        ensures honest { F.is_honest self.old.files.folder ↔ F.is_honest self.new.files.folder }
         ensures files { self.new.files.files ≡ self.old.files.files }
         ensures rules { self.new.rules ≡ self.old.rules }
     {
+        // For the proof alone.
+        files_lead_on::<D, F>();
         give_back(&mut self.files, name, disk);
     }
 
@@ -337,8 +449,18 @@ impl<D: Disk + Drop, F: Folder<File = D> + Drop> Rotation<F> {
     pub fn open_again<B: Beside>(&mut self, beside: &mut B) -> Result<Recorder<D>, Damage>
         // Nothing waits in it.
         ensures fresh { IfOk result (λ r. (r.file.failed ≡ false) × (r.held ≡ 0)) }
+        // Events of the law lead on: the recorder writes the newest file. After a fault it may be opened again.
+        ensures leads { IfOk result (λ r. F.is_honest self.old.files.folder → (a : Account CommandOf) (newest : NewestOf CommandOf)
+            (disks : ℕ → D) → AreAt F.names D.Disk self.old.files a disks → IsAtHand F.file D.Disk self.old.files.folder a newest disks
+            → ComesWritten F.names F.moment F.left_since D.Disk self.old.files a disks newest.name.number r self.new.files) }
+        ensures unopened { OnErr result (F.is_honest self.old.files.folder → (a : Account CommandOf) (newest : NewestOf CommandOf)
+            (disks : ℕ → D) → AreAt F.names D.Disk self.old.files a disks → IsAtHand F.file D.Disk self.old.files.folder a newest disks
+            → ComesBack F.names F.moment F.left_since D.Disk F.file self.old.files a disks newest.name.number self.new.files) }
+        ensures honest { F.is_honest self.old.files.folder ↔ F.is_honest self.new.files.folder }
         ensures rules { self.new.rules ≡ self.old.rules }
     {
+        // For the proof alone.
+        files_lead_on::<D, F>();
         for _ in 0..self.tries() {
             match open_last(self.alloc, &mut self.files) {
                 Ok((_, recorder)) => {

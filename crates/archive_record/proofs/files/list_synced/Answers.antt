@@ -1,5 +1,4 @@
-use Rattle.std.proofs.Common.{◌≡◌, ◌∙◌, [], Result, Ok, Err, OnOk}
-use Rattle.archive_folder.specs.Names.{synced}
+use Rattle.std.proofs.Common.{◌∙◌, [], Result, Ok, Err, OnOk}
 use Rattle.archive_record.proofs.files.list_synced.Goals as goal
 
 at_ok : {T E : Type 0} (P : Type 0) (r : Result T E) → P → OnOk r P

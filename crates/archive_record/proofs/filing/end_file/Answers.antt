@@ -1,18 +1,14 @@
 use Rattle.std.proofs.Common.{[], refl, sym, subst, ◌∙◌}
 use Rattle.archive_history.specs.Archive.{Known, Whole}
 use Rattle.history.specs.World.{Faulted, GivenBack, Sealing, closed}
-use Rattle.archive_record.proofs.Reaching.{laws_of, let_aside, let_sealed}
+use Rattle.archive_record.proofs.Reaching.{let_aside, let_sealed}
 use Rattle.archive_record.proofs.filing.end_file.Goals as goal
 
 pub returns-then-is_failed-clause-leads : goal.returns-then-is_failed-clause-leads
 returns-then-is_failed-clause-leads g c = λ honest a file disks named written.
     let d = g.D.Disk in
     let f = g.F.Folder in
-    let is_one = c.calls_are_events.ensures in
-    let lead = c.calls_lead_on.ensures in
-    let on = c.events_lead_on.ensures in
-    let law = laws_of f.names f.moment f.left_since f.file d (on.nothing []) (on.both []) (λ a b old new. on.stands [] a b old new c.images_show_one_recording.ensures.new)
-    (lead.recording []) (lead.ending []) (lead.setting_aside []) (lead.resuming []) is_one.recorded is_one.ended is_one.set_aside in
+    let law = c.files_lead_on.ensures in
     let back = c.give_back-then-is_failed.ensures in
     let disk = c.give_back.result in
     let still = subst d.is_honest (sym c.give_back.ensures) written.honest in (
@@ -29,16 +25,12 @@ pub returns-in-Ok-clause-leads : goal.returns-in-Ok-clause-leads
 returns-in-Ok-clause-leads g c = λ honest a file disks named written.
     let d = g.D.Disk in
     let f = g.F.Folder in
-    let is_one = c.calls_are_events.ensures in
-    let lead = c.calls_lead_on.ensures in
-    let on = c.events_lead_on.ensures in
-    let law = laws_of f.names f.moment f.left_since f.file d (on.nothing []) (on.both []) (λ a b old new. on.stands [] a b old new c.images_show_one_recording.ensures.new)
-    (lead.recording []) (lead.ending []) (lead.setting_aside []) (lead.resuming []) is_one.recorded is_one.ended is_one.set_aside in
+    let law = c.files_lead_on.ensures in
     let back = c.give_back-in-Ok.ensures in
     let disk = c.in-Ok.disk in
     let now = c.in-Ok.ensures.frame.honest.0 written.honest in
     let sealed = c.in-Ok.ensures.sealed written.honest in
-    let only = c.calls_are_events.ensures.ending (d.state disk) sealed.0 (g.met.D.Disk.laws disk now).contents_is_image in
+    let only = c.files_lead_on.ensures.only (d.state disk) sealed.0 (g.met.D.Disk.laws disk now).contents_is_image in
     let bytes = (d.state disk).contents in (
       Whole bytes file.world.acknowledged,
       disk,
@@ -54,11 +46,7 @@ pub returns-in-Err-clause-leads : goal.returns-in-Err-clause-leads
 returns-in-Err-clause-leads g c = λ honest a file disks named written.
     let d = g.D.Disk in
     let f = g.F.Folder in
-    let is_one = c.calls_are_events.ensures in
-    let lead = c.calls_lead_on.ensures in
-    let on = c.events_lead_on.ensures in
-    let law = laws_of f.names f.moment f.left_since f.file d (on.nothing []) (on.both []) (λ a b old new. on.stands [] a b old new c.images_show_one_recording.ensures.new)
-    (lead.recording []) (lead.ending []) (lead.setting_aside []) (lead.resuming []) is_one.recorded is_one.ended is_one.set_aside in
+    let law = c.files_lead_on.ensures in
     let back = c.give_back-in-Err.ensures in
     let disk = c.in-Err.disk in
     let now = c.in-Err.ensures.frame_err.honest.0 written.honest in (

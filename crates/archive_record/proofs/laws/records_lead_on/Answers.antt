@@ -5,20 +5,15 @@ use Rattle.history.specs.History.{AreSteps}
 use Rattle.history.specs.World.{World, run}
 use Rattle.link_chain.specs.Recording.{Recording}
 use Rattle.ogg_command.specs.declared.command.Command.{Command}
-use Rattle.archive_history.specs.History.{point}
 use Rattle.archive_record.specs.Reaching.{in_world}
-use Rattle.archive_record.proofs.Leading.{AreEvents, steps_lead}
+use Rattle.archive_record.proofs.Leading.{steps_lead}
 use Rattle.archive_record.proofs.laws.records_lead_on.Goals as goal
 
 pub returns : goal.returns
 returns g c begun last done kept stands first a file folder disks is stays world here named =
     let d = g.D.Disk in
     let f = g.F.Folder in
-    let law : AreEvents f.names f.moment f.left_since d = record {
-      nothing = λ x there at. c.events_lead_on.ensures.nothing [] x (point there at);
-      both = λ x y z old mid new at between after. c.events_lead_on.ensures.both [] x y z (point old at) (point mid between) (point new after);
-      step = λ x one at there step disk. c.calls_lead_on.ensures.recording [] x one at there step disk;
-    } in
+    let law = c.files_lead_on.ensures in
     let s = kept.steps in
     let disk = begun.progress.now.file.disk in
     let are = subst (λ (w : World Command). AreSteps d Shows Accepts add [] w disk s.steps) (sym world)

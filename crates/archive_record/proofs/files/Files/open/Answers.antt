@@ -1,4 +1,4 @@
-use Rattle.std.proofs.Common.{◌≡◌, ◌∙◌, ap}
+use Rattle.std.proofs.Common.{◌∙◌, ap}
 use Rattle.archive_folder.specs.Names.{listed}
 use Rattle.archive_record.proofs.Numbers.{listed_synced}
 use Rattle.archive_record.proofs.Known.{known_shown}

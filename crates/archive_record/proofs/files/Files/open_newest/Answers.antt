@@ -1,4 +1,4 @@
-use Rattle.std.proofs.Common.{◌≡◌, ◌∙◌, ap, arith}
+use Rattle.std.proofs.Common.{◌∙◌, ap, arith}
 use Rattle.archive_record.specs.FilesState.{FilesState}
 use Rattle.archive_record.proofs.Known.{one_there, one_kept, none_is_other}
 use Rattle.archive_record.proofs.files.Files.open_newest.Goals as goal

@@ -1,9 +1,6 @@
-use Rattle.std.proofs.Common.{◌≡◌, ℕ, List, Option, Some, sym, subst}
-use Rattle.archive_folder.specs.declared.names.FileName.{FileName}
+use Rattle.std.proofs.Common.{◌≡◌, ℕ, List, Some, sym, subst}
 use Rattle.archive_names.specs.Name.{IsText}
-use Rattle.archive_names.specs.declared.name.Kind.{Kind}
-use Rattle.archive_names.specs.declared.name.Kind.TheVariants.{Pages, Times, Keep}
-use Rattle.archive_names.specs.declared.name.Name.{Name}
+use Rattle.archive_names.specs.declared.name.Kind.TheVariants.{Pages}
 use Rattle.archive_record.specs.Spelling.{name_of}
 use Rattle.archive_record.proofs.Spelled.{told_name, same_name, same_kind}
 use Rattle.archive_record.proofs.naming.ArchiveNamesNaming.read.Goals as goal

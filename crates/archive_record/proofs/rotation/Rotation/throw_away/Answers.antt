@@ -1,5 +1,4 @@
-use Rattle.std.proofs.Common.{◌∙◌, refl, sym, subst}
-use Rattle.archive_record.specs.Account.{IsHandedOut}
+use Rattle.std.proofs.Common.{◌∙◌, refl}
 use Rattle.archive_record.proofs.Retained.{left_same, left_then}
 use Rattle.archive_record.proofs.Staying.{goes_on, nothing_goes}
 use Rattle.archive_record.proofs.rotation.Rotation.throw_away.Goals as goal
@@ -10,9 +9,9 @@ loop-preserved g c = record {
   paired = λ same. c.throw_one.ensures.paired (c.loop.invariant.paired same);
   out = c.throw_one.ensures.out ∙ c.loop.invariant.out;
   rules = c.throw_one.ensures.rules ∙ c.loop.invariant.rules;
-  leads = λ honest a disks out named. goes_on g.F.Folder.names g.F.Folder.moment g.F.Folder.left_since g.D.Disk c.args.self.now.files.out a
-      c.args.self.now.files.folder c.loop.self.files.folder c.throw_one.new.self.files.folder disks out (c.loop.invariant.leads honest a disks out named)
-      (λ b is here. c.throw_one.ensures.leads (c.loop.invariant.honest.0 honest) b disks (subst (λ o. IsHandedOut o b) (sym c.loop.invariant.out) is) here);
+  leads = λ honest a disks last named. goes_on g.F.Folder.names g.F.Folder.moment g.F.Folder.left_since g.D.Disk c.args.self.now.files.files c.loop.self.files.files a
+      c.args.self.now.files.folder c.loop.self.files.folder c.throw_one.new.self.files.folder disks last c.loop.invariant.left (c.loop.invariant.leads honest a disks last named)
+      (λ b is here. c.throw_one.ensures.leads (c.loop.invariant.honest.0 honest) b disks is here);
   honest = (λ now. c.throw_one.ensures.honest.0 (c.loop.invariant.honest.0 now), λ now. c.loop.invariant.honest.1 (c.throw_one.ensures.honest.1 now));
 }
 
@@ -22,6 +21,6 @@ loop-init g c = record {
   paired = λ same. same;
   out = refl;
   rules = refl;
-  leads = λ honest a disks out named. nothing_goes g.F.Folder.names g.F.Folder.moment g.F.Folder.left_since g.D.Disk a c.args.self.now.files.folder disks named;
+  leads = λ honest a disks last named. nothing_goes g.F.Folder.names g.F.Folder.moment g.F.Folder.left_since g.D.Disk a c.args.self.now.files.folder disks named;
   honest = (λ now. now, λ now. now);
 }

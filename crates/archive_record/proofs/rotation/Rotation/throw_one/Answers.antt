@@ -1,7 +1,7 @@
 use Rattle.std.proofs.Common.{◌≡◌, ◌≢◌, ◌∙◌, ◌<◌, Ok, ap, refl, sym, subst, arith, length, List, ℕ, Some}
 use Rattle.archive_history.specs.Archive.{Throwing, begun_by, names}
 use Rattle.archive_folder.specs.declared.names.FileName.{FileName}
-use Rattle.archive_record.specs.Account.{IsHandedOut, StaysWritten}
+use Rattle.archive_record.specs.Account.{StaysWritten}
 use Rattle.archive_record.specs.Files.{without}
 use Rattle.archive_record.specs.FilesState.{FilesState}
 use Rattle.archive_record.specs.Retention.{IsLeftOf, MayGo}
@@ -56,25 +56,23 @@ returns-in-Err-throw_away-clause-paired g c = λ same.
     omega (arith, less, one, left, same)
 
 pub returns-in-Ok-true-clause-leads : goal.returns-in-Ok-true-clause-leads
-returns-in-Ok-true-clause-leads g c = λ honest a disks out named.
+returns-in-Ok-true-clause-leads g c = λ honest a disks last named.
     let f = g.F.Folder in
     let n : ℕ = c.in-Some.name.now.number in
-    let other : c.facts.new.self.out ≢ Some n = λ same. (let told = c.throw_away.ensures.stays.1 same in cc) in
     let here : f.names c.facts.new.self.folder ≡ names a = c.facts.ensures.names honest ∙ named in
-    let handed : IsHandedOut c.facts.new.self.out a = subst (λ o. IsHandedOut o a) (sym c.facts.ensures.out) out in
-    let goes = c.throw_away.ensures.leads (c.in-Ok-true.is ∙ ap Ok c.in-Ok-true.field-0-test) (c.facts.ensures.honest.0 honest) a disks (not_newest c.facts.new.self.out n a handed other) here in
+    let may : MayGo n c.args.self.now.files.files = subst (MayGo n) c.names-2.ensures (c.may_go.ensures c.if-not-may_go.false) in
+    let goes = c.throw_away.ensures.leads (c.in-Ok-true.is ∙ ap Ok c.in-Ok-true.field-0-test) (c.facts.ensures.honest.0 honest) a disks (not_newest n c.args.self.now.files.files a last may) here in
     let thrown = looked_and_led f.names f.moment f.left_since g.D.Disk a (begun_by a (Throwing n)) c.args.self.now.files.folder c.facts.new.self.folder c.throw_away.new.self.folder disks here
     refl (c.facts.ensures.leads honest a disks named) goes in
     subst (λ (s : FilesState _). StaysWritten f.names f.moment f.left_since g.D.Disk a c.args.self.now.files.folder disks s.folder) (sym c.forget.ensures.files) thrown
 
 pub returns-in-Err-throw_away-clause-leads : goal.returns-in-Err-throw_away-clause-leads
-returns-in-Err-throw_away-clause-leads g c = λ honest a disks out named.
+returns-in-Err-throw_away-clause-leads g c = λ honest a disks last named.
     let f = g.F.Folder in
     let n : ℕ = c.in-Some.name.now.number in
-    let other : c.facts.new.self.out ≢ Some n = λ same. (let told = c.throw_away.ensures.stays.1 same in cc) in
     let here : f.names c.facts.new.self.folder ≡ names a = c.facts.ensures.names honest ∙ named in
-    let handed : IsHandedOut c.facts.new.self.out a = subst (λ o. IsHandedOut o a) (sym c.facts.ensures.out) out in
-    let goes = c.in-Err-throw_away.ensures.unthrown_leads (c.facts.ensures.honest.0 honest) a disks (not_newest c.facts.new.self.out n a handed other) here in
+    let may : MayGo n c.args.self.now.files.files = subst (MayGo n) c.names-2.ensures (c.may_go.ensures c.if-not-may_go.false) in
+    let goes = c.in-Err-throw_away.ensures.unthrown_leads (c.facts.ensures.honest.0 honest) a disks (not_newest n c.args.self.now.files.files a last may) here in
     let thrown = looked_and_led f.names f.moment f.left_since g.D.Disk a goes.0 c.args.self.now.files.folder c.facts.new.self.folder c.throw_away.new.self.folder disks here
     goes.1 (c.facts.ensures.leads honest a disks named) goes.2 in
     subst (λ (s : FilesState _). StaysWritten f.names f.moment f.left_since g.D.Disk a c.args.self.now.files.folder disks s.folder) (sym c.forget-in-Err-throw_away.ensures.files) thrown
