@@ -2,3 +2,4 @@ mod Accepted
 mod Calls
 mod Cuts
 mod Shown
+mod Started

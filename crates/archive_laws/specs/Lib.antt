@@ -1,3 +1,4 @@
 pub mod Committing
 pub mod CommittingLaws
 pub mod Cutting
+pub mod Starting
