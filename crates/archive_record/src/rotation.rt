@@ -174,6 +174,8 @@ impl<D: Disk + Drop, F: Folder<File = D> + Drop> Rotation<F> {
         // Nothing waits in it, and nothing was recorded into it, if no file goes for want of room.
         ensures works { IfOk result (λ (file, r). (r.held ≡ 0) × (r.file.failed ≡ false)) }
         ensures unwritten { self.old.rules.keeping.bytes ≡ None → IfOk result (λ (file, r). IsNew D.Disk r) }
+        // Its name has this time, and says that it goes on only if that was asked.
+        ensures named { IfOk result (λ (file, r). ((name_of file).begin ≡ now / 1000) × (file.goes_on ≡ true → goes_on ≡ true)) }
         // Events of the law lead on: the recorder writes the new file. After a fault no file is written.
         ensures leads { IfOk result (λ (file, r). F.is_honest self.old.files.folder → (a : Account CommandOf) (disks : ℕ → D)
             → AreAt F.names D.Disk self.old.files a disks → a.newest ≡ None
@@ -212,24 +214,25 @@ impl<D: Disk + Drop, F: Folder<File = D> + Drop> Rotation<F> {
             → WritesNone F.names F.moment F.left_since D.Disk a self.old.files.folder disks self.new.files.folder) }
         ensures empty { IfOk result (λ (file, disk). F.is_honest self.old.files.folder → D.is_honest disk) }
         ensures newest { IfOk result (λ (file, disk). (front : List FileNameOf) × (self.new.files.files ≡ front ++ file ∷ [])) }
+        ensures named { IfOk result (λ (file, disk). (file.begun ≡ begun) × (file.goes_on ≡ true → goes_on ≡ true)) }
         ensures out { IfOk result (λ (file, disk). self.new.files.out ≡ Some file.number) }
         ensures honest { F.is_honest self.old.files.folder ↔ F.is_honest self.new.files.folder }
         ensures fresh { IfOk result (λ (file, disk). D.is_honest disk → D.state disk ≡ settled []) }
         ensures rules { self.new.rules ≡ self.old.rules }
     {
-        let mut goes_on = goes_on;
+        let mut is_next = goes_on;
         for _ in 0..self.tries() {
             if !self.files.is_free() {
                 return Err(ArchiveFault::Folder);
             }
-            match self.files.begin(begun, goes_on) {
+            match self.files.begin(begun, is_next) {
                 Ok(begun) => return Ok(begun),
                 Err(BeginFault::Folder) => {
                     if !self.make_room(beside) {
                         return Err(ArchiveFault::Folder);
                     }
                     // The number was used, so the next file isn't the one after the last.
-                    goes_on = false;
+                    is_next = false;
                 }
                 Err(fault) => return Err(fault.into()),
             }

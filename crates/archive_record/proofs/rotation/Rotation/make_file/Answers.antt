@@ -1,4 +1,4 @@
-use Rattle.std.proofs.Common.{◌≡◌, ◌∙◌, ℕ, Err, None, ap, refl, inl, inr, sym, subst}
+use Rattle.std.proofs.Common.{◌≡◌, ◌∙◌, ℕ, false, true, Err, None, ap, refl, inl, inr, sym, subst}
 use Rattle.archive_record.proofs.Staying.{names_led, new_one, none_stays, none_still, none_yet}
 use Rattle.archive_history.specs.Archive.{Archive as Account, names}
 use Rattle.ogg_command.specs.declared.command.Command.{Command}
@@ -12,6 +12,7 @@ pub loop-init : goal.loop-init
 loop-init g c = record {
   rules = refl;
   leads = λ honest a disks none named. none_yet g.F.Folder.names g.F.Folder.moment g.F.Folder.left_since g.D.Disk a c.args.self.now.files.folder disks none named;
+  named = λ next. next;
   honest = (λ now. now, λ now. now);
 }
 
@@ -37,11 +38,15 @@ loop-preserved g c =
           (λ b after is here. let (x, last, free, on) = c.begin.ensures.unbegun_leads failed now b after is here in
           (x, last, free, names_led f.names f.moment f.left_since g.D.Disk b x mid between after last here on, on)))
           (λ b after handed here. c.make_room.ensures.leads (c.begin.ensures.honest.0 now) b after handed here);
+      named = λ next. absurd (never next);
       honest = (
         λ now. c.make_room.ensures.honest.0 (c.begin.ensures.honest.0 (c.loop.invariant.honest.0 now)),
         λ now. c.loop.invariant.honest.1 (c.begin.ensures.honest.1 (c.make_room.ensures.honest.1 now)),
       );
     }
+  where
+    never : false ≡ true → ⊥
+    never same = cc
 
 pub returns-then-not-make_room-clause-unmade : goal.returns-then-not-make_room-clause-unmade
 returns-then-not-make_room-clause-unmade g c = λ honest a disks none named.

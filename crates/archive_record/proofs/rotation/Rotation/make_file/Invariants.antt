@@ -1,4 +1,4 @@
-use Rattle.std.proofs.Common.{◌≡◌, ℕ, None}
+use Rattle.std.proofs.Common.{◌≡◌, ℕ, None, true}
 use Rattle.std.specs.Prelude.{◌↔◌}
 use Rattle.archive_history.specs.Archive.{Archive, names}
 use Rattle.ogg_command.specs.declared.command.Command.{Command}
@@ -13,5 +13,6 @@ invariant-loop g l =
       leads : f.is_honest l.initial.self.files.folder → (a : Archive Command) (disks : ℕ → g.row.D.Denot) → a.newest ≡ None
           → f.names l.initial.self.files.folder ≡ names a
           → WritesNone f.names f.moment f.left_since g.D.Disk a l.initial.self.files.folder disks l.self.files.folder;
+      named : l.is_next ≡ true → l.initial.goes_on ≡ true;
       honest : f.is_honest l.initial.self.files.folder ↔ f.is_honest l.self.files.folder;
     }
