@@ -14,7 +14,7 @@ use disk_model::Disk;
 use file_recorder::Recorded;
 
 /// The last file of a folder may be written, if no name of it is in doubt, what came after that file held nothing, and
-/// each file is ours and was closed: so `MayStart` of archive_record holds of a folder that was written by its archive.
+/// each file is ours and was closed. A start asks that (`MayStart` of archive_record).
 pub fn last_files_may_be_written<D: Disk, F: Folder<File = D>>()
     ensures last { (a : Archive CommandOf) (front : List ℕ) (n : ℕ) → AreRising (names a) → AllStay (names a) → EndIsSafe a → AreOurs a
         → listed (names a) ≡ front ++ n ∷ [] → MayBeWritten a n }

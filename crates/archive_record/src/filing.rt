@@ -59,6 +59,8 @@ pub(crate) fn open_newest<D: Disk + Drop, F: Folder<File = D>>(
         → (a : Account CommandOf) (last : NewestOf CommandOf) (disks : ℕ → D) → AreAt F.names D.Disk files.old a disks
         → IsAtHand F.file D.Disk files.old.folder a last disks
         → ComesBack F.names F.moment F.left_since D.Disk F.file files.old a disks last.name.number files.new) }
+    // What isn't gone on with is with the folder.
+    ensures free { files.old.out ≡ None → OnErr result (files.new.out ≡ None) }
     ensures honest { F.is_honest files.old.folder ↔ F.is_honest files.new.folder }
 {
     // For the proof alone.
@@ -141,6 +143,9 @@ fn open_ended<D: Disk + Drop, F: Folder<File = D>>(
         → (a : Account CommandOf) (last : NewestOf CommandOf) (disks : ℕ → D) → AreAt F.names D.Disk files.old a disks
         → IsWritten D.Disk a last name.number recorder disks → files.old.out ≡ Some name.number
         → ComesBack F.names F.moment F.left_since D.Disk F.file files.old a disks name.number files.new) }
+    // What isn't gone on with is with the folder.
+    ensures free { files.old.out ≡ Some name.number → OnErr result (files.new.out ≡ None) }
+    ensures free_over { result ≡ Ok None → files.old.out ≡ Some name.number → files.new.out ≡ None }
     ensures honest { F.is_honest files.old.folder ↔ F.is_honest files.new.folder }
 {
     // For the proof alone.
