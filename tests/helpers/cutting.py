@@ -9,6 +9,7 @@
     cutting.py odd PROGRAM              times that are missing, torn or wrong, files that are damaged or gone, clocks
     cutting.py damaged PROGRAM          three files of which one is damaged in the middle: it is left out, which is told
     cutting.py again PROGRAM            links that have the serials of links before, with Skeletons and without
+    cutting.py untold PROGRAM           what no line of times tells of yet, cut up to now and from now on
     cutting.py meeting PROGRAM          two files of which the second goes on with the first, or doesn't for one reason
 
 An archive is a list of files, and a file one of commands, each with when it was committed. A line of times is written
@@ -598,6 +599,22 @@ def growing(program):
         assert found == [b"packet %d" % at for at in range(sent)], (sent, len(found), found[:3], found[-3:])
 
 
+def untold(program):
+    """What no line of times tells of yet comes after all times up to now, whichever of the two is asked for first."""
+    with tempfile.TemporaryDirectory() as folder:
+        file = File(1, START)
+        file.begun(START, [(7, [b"head"])])
+        file.put(START + 1200, [(7, 960, b"told")])
+        file.put(START + 2400, [(7, 1920, b"untold")])
+        file.lines.pop()
+        file.save(folder)
+        for _ in range(100):
+            got = [subprocess.run([program, "cut", folder, *when], capture_output=True, timeout=60) for when in (["--until", "-0s"], ["--since", "-0s"], [])]
+            assert [one.returncode for one in got] == [0, 0, 0], got
+            told = [links_in(one.stdout) for one in got]
+            assert told == [[[[7, [b"head", *packets]]]] for packets in ([b"told"], [b"untold"], [b"told", b"untold"])], told
+
+
 def page_of(serial, number, flags=0):
     body = b"head" if flags & 2 else b"packet %d" % number
     return page(flags, 960 * number, serial, number, [len(body)], body)
@@ -753,6 +770,8 @@ def main():
             filled(sys.argv[2])
         elif sys.argv[1] == "growing":
             growing(sys.argv[2])
+        elif sys.argv[1] == "untold":
+            untold(sys.argv[2])
         else:
             odd(sys.argv[2])
     except AssertionError as fault:

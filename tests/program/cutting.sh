@@ -16,6 +16,7 @@ check "links that have the serials of links before" cutting again
 check "a file that is damaged in its middle, between sound ones, before them and after them" cutting damaged
 check "links that begin just before a file ends, and files that are full within a commit" cutting filled
 check "clocks that stood still, went back or ran ahead" cutting clocks 400
+check "what no line of times tells of yet, up to now and from now on" cutting untold
 check "an archive that is recorded, with restarts, while it is cut" cutting growing
 
 # Nothing is written of nothing.

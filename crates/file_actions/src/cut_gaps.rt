@@ -121,7 +121,7 @@ impl<'a> Asked<'a> {
     /// Up to the end of the time that is asked for nothing more follows.
     pub(crate) fn end_air(&self, finds: &mut Finds) -> Result<(), Fault> {
         match finds.air.quiet {
-            Some(quiet) => self.add_gap(quiet, self.now, finds),
+            Some(quiet) => self.add_gap(quiet, self.later, finds),
             None => Ok(()),
         }
     }

@@ -30,7 +30,8 @@ pub(crate) struct Asked<'a> {
     pub(crate) folder: &'a str,
     pub(crate) since: Option<u64>,
     pub(crate) until: Option<u64>,
-    pub(crate) now: u64,
+    // what is taken for the time of that of which no line of times tells yet
+    pub(crate) later: u64,
 }
 
 /// Why nothing was found.
@@ -147,7 +148,8 @@ impl<'a> Finding<'a> {
             folder: path,
             since,
             until,
-            now: now(rt),
+            // What no line of times tells of yet was recorded after each time that could be asked for by now.
+            later: now(rt).saturating_add(1),
         };
         let seen = match folder(rt, path) {
             Ok(seen) => seen,
@@ -234,7 +236,7 @@ impl<'a> Asked<'a> {
     ) -> Result<(), Stop> {
         let later = match next {
             Some(next) => begin_of(next.name),
-            None => self.now,
+            None => self.later,
         };
         let is_asked = self.is_asked(begin_of(file.name), later);
         let seen = if is_asked {
