@@ -159,7 +159,8 @@ impl<D: Disk + Drop> Station<D> {
 
     /// Every connection has a key that is less.
     pub fn keys(&self) -> usize
-        ensures { (key : ℕ) → get self.now.clients.slots key ≢ None → key < result }
+        ensures below { (key : ℕ) → get self.now.clients.slots key ≢ None → key < result }
+        ensures count { result ≡ self.now.clients.slots.capacity }
     {
         self.clients.slots.capacity()
     }

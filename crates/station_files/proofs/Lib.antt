@@ -1,1 +1,4 @@
+mod Behind
 mod Moved
+mod Placed
+mod Sent

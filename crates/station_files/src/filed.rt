@@ -1,5 +1,9 @@
 //! The files of a folder under a station: the one that is recorded, and when the next one is begun.
-ghost use Rattle.std.specs.Prelude.{◌≡◌, IfOk, false};
+ghost use Rattle.std.specs.Prelude.{◌≡◌, ◌<◌, IfOk, None, Ok, OnOk, Some, false, filter, true};
+ghost use Rattle.station_files.specs.Moving.{GoesOver, GoesOverTo, IsJoined};
+ghost use Rattle.station_files.specs.Named.{has_number, only_one};
+ghost use Rattle.station_sources.specs.Pending.{HasCome};
+ghost use Rattle.station_sources.specs.declared.air.OnAir.{OnAir as OnAirOf};
 ghost use Rattle.archive_record.specs.Files.{AllKept};
 
 use crate::seats::{Meeting, Next, Stations};
@@ -97,18 +101,76 @@ fn join_of<D: Disk + Drop>(stations: &Stations<D>) -> Option<Join> {
     })
 }
 
+/// Whether a link goes on: these streams were open at the end of the file before, and have ended there.
+fn goes_on(is_ended: bool, open: &[StreamState]) -> bool
+    ensures { is_ended ≡ false → result ≡ false }
+{
+    is_ended && !open.is_empty()
+}
+
+/// The link goes on, if one does, that was open at the end of the file before with these streams, if it has begun in this one
+/// with as many, and that is kept.
+fn join_link<D: Disk + Drop>(
+    alloc: Global,
+    stations: &mut Stations<D>,
+    goes_on: bool,
+    open: Vec<StreamState>,
+) -> Result<(), ArchiveFault>
+    ensures joined { IsJoined «open».items stations.old stations.new }
+    ensures none { goes_on ≡ false → stations.new ≡ stations.old }
+{
+    if !goes_on {
+        return Ok(());
+    }
+    let hub = stations.newest().hub();
+    if hub.held() > 0 || hub.is_failed() {
+        return Ok(());
+    }
+    let Ok(begun) = open_streams(alloc, hub.streams()) else {
+        return Err(ArchiveFault::Memory);
+    };
+    if begun.len() != open.len() {
+        return Ok(());
+    }
+    let begun_end = hub.end();
+    stations.goes_on(Meeting {
+        open,
+        begun,
+        begun_end,
+    });
+    Ok(())
+}
+
 /// Begins the link that is open in the source again, under serials that are none of these. Whether something of the source
 /// is lost is noted.
 fn begin_link<D: Disk + Drop>(
     stations: &mut Stations<D>,
     serials: &[u32],
     is_lost: bool,
-) -> Result<Answered, ArchiveFault> {
+) -> Result<Answered, ArchiveFault>
+    ensures rest { stations.new ≡ record stations.old { newest = stations.new.newest } }
+{
     match stations.newest_mut().begin_again(serials, is_lost) {
         Ok(answered) => Ok(answered),
         Err(RecordFault::Memory) => Err(ArchiveFault::Memory),
         Err(fault) => Err(ArchiveFault::Input(fault)),
     }
+}
+
+/// The name with this number. None if there is none, or more than one.
+fn only_named(names: &[FileName], number: u64) -> Option<FileName>
+    ensures { result ≡ only_one (filter (has_number number) names.now) }
+{
+    let mut found = None;
+    for name in names {
+        if name.number == number {
+            if found.is_some() {
+                return None;
+            }
+            found = Some(*name);
+        }
+    }
+    found
 }
 
 impl<D: Disk + Drop, F: Folder<File = D> + Drop> Filed<F> {
@@ -142,22 +204,17 @@ impl<D: Disk + Drop, F: Folder<File = D> + Drop> Filed<F> {
     }
 
     /// The name of the file that is recorded.
-    pub fn name(&self) -> FileName {
+    pub fn name(&self) -> FileName
+        ensures { result ≡ self.now.name }
+    {
         self.name
     }
 
     /// The file with this number. None if there is no such file, or more than one.
-    pub fn named(&self, number: u64) -> Option<FileName> {
-        let mut found = None;
-        for name in self.rotation.names() {
-            if name.number == number {
-                if found.is_some() {
-                    return None;
-                }
-                found = Some(*name);
-            }
-        }
-        found
+    pub fn named(&self, number: u64) -> Option<FileName>
+        ensures { result ≡ only_one (filter (has_number number) self.now.rotation.files.files) }
+    {
+        only_named(self.rotation.names(), number)
     }
 
     /// Begins the next file, if something has come that is recorded, and the newest is over. It returns what was answered when
@@ -170,7 +227,11 @@ impl<D: Disk + Drop, F: Folder<File = D> + Drop> Filed<F> {
         readers: &mut R,
         clocks: Clocks,
         beside: &mut B,
-    ) -> Result<Option<Answered>, ArchiveFault> {
+    ) -> Result<Option<Answered>, ArchiveFault>
+        // Nothing is done before a change may be tried again, or if nothing has come that would be recorded.
+        ensures early { clocks.steady < self.old.put_off → (result ≡ Ok None) × (self.new ≡ self.old) × (stations.new ≡ stations.old) }
+        ensures idle { stations.old.newest.air ≡ None → (result ≡ Ok None) × (self.new ≡ self.old) × (stations.new ≡ stations.old) }
+    {
         if clocks.steady < self.put_off || !self.is_due(stations, clocks.day) {
             return Ok(None);
         }
@@ -186,7 +247,10 @@ impl<D: Disk + Drop, F: Folder<File = D> + Drop> Filed<F> {
     }
 
     /// Whether something has come, and belongs into the next file.
-    fn is_due(&self, stations: &Stations<D>, day: u64) -> bool {
+    fn is_due(&self, stations: &Stations<D>, day: u64) -> bool
+        ensures idle { stations.now.newest.air ≡ None → result ≡ false }
+        ensures due { result ≡ true → (air : OnAirOf) × (stations.now.newest.air ≡ Some air) × HasCome air }
+    {
         let station = stations.newest();
         if !station.has_come() {
             return false;
@@ -287,26 +351,18 @@ impl<D: Disk + Drop, F: Folder<File = D> + Drop> Filed<F> {
         is_ended: bool,
         day: u64,
         beside: &mut B,
-    ) -> Result<Answered, ArchiveFault> {
-        let goes_on = is_ended && !open.is_empty();
+    ) -> Result<Answered, ArchiveFault>
+        ensures another { OnOk result (GoesOver «open».items Next.Another stations.old stations.new) }
+        ensures parted { is_ended ≡ false → OnOk result (GoesOverTo Next.Another stations.old stations.new) }
+    {
+        let goes_on = goes_on(is_ended, open.as_slice());
         let (name, recorder) = self.rotation.begin(goes_on, day, beside)?;
         self.name = name;
         let hub = hub_over(self.alloc, recorder, self.most)?;
         stations.change(live_over(self.alloc, hub)?, Next::Another);
         let answered = begin_link(stations, serials, !is_ended)?;
         self.tell_time(stations, day, beside);
-        let hub = stations.newest().hub();
-        let Ok(begun) = open_streams(self.alloc, hub.streams()) else {
-            return Err(ArchiveFault::Memory);
-        };
-        if goes_on && hub.held() == 0 && !hub.is_failed() && begun.len() == open.len() {
-            let begun_end = hub.end();
-            stations.goes_on(Meeting {
-                open,
-                begun,
-                begun_end,
-            });
-        }
+        join_link(self.alloc, stations, goes_on, open)?;
         self.rotation.throw_away(day, beside);
         Ok(answered)
     }
@@ -372,6 +428,7 @@ impl<D: Disk + Drop, F: Folder<File = D> + Drop> Filed<F> {
         beside: &mut B,
     ) -> Result<Done, ArchiveFault>
         requires { recorder.held ≡ 0 }
+        ensures same { OnOk result (GoesOverTo Next.Same stations.old stations.new) }
     {
         let hub = hub_over(self.alloc, recorder, self.most)?;
         stations.change(live_over(self.alloc, hub)?, Next::Same);

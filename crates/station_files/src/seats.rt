@@ -1,12 +1,24 @@
 //! The station whose file is recorded, and those that serve files that have ended to whoever reads them still.
-ghost use Rattle.std.specs.Prelude.{◌≡◌, ◌≢◌, ◌↔◌, ◌+◌, ◌-◌, ◌^◌, ◌<◌, ◌≤◌, ◌∷◌, ◌++◌, [], IfSome, IsSome, None, Ok, OnOk, Some, false, length, min, true, vec_capacity, vec_len};
-ghost use Rattle.slab.specs.Slab.{get};
-ghost use Rattle.serve_clients.specs.Client.{ClientState};
+ghost use Rattle.std.specs.Borrow.{sem};
+ghost use Rattle.std.specs.Prelude.{◌≡◌, ◌≢◌, ◌↔◌, ◌+◌, ◌-◌, ◌^◌, ◌<◌, ◌≤◌, ◌∷◌, ◌++◌, ◌⊎◌, ◌||◌, ◌==◌, ◌&&◌, [], ℕ, Err, IfOk, IfSome, IsSome, List, None, Ok, OnErr, OnOk, Option, Some, drop, false, length, min, nat_le, option_map, slice_get, slice_set, true, vec_capacity, vec_len};
+ghost use Rattle.slab.specs.Slab.{get, slab_len};
+ghost use Rattle.serve_clients.specs.Client.{ClientState, fresh};
+ghost use Rattle.serve_clients.specs.Clients.{AreLookedAt, OthersStay};
+ghost use Rattle.serve_clients.specs.Kinds.{sum};
+ghost use Rattle.serve_hub.specs.Showing.{Shows};
 ghost use Rattle.serve_live.specs.Listening.{ListenerState};
+ghost use Rattle.serve_machine.specs.Hub.{HubState};
 ghost use Rattle.station.specs.Changing.{HearsOn, ReadsFile};
-ghost use Rattle.station_files.specs.Moving.{EntersNext, HasEntered, HasLeft, HasNotEntered, HearsBy};
+ghost use Rattle.station_hub.specs.Giving.{has_got_all};
+ghost use Rattle.station_files.specs.Lending.{LendsNewest};
+ghost use Rattle.station_files.specs.Moving.{AreDropped, AreSent, EntersBehind, EntersIf, EntersNext, HasEntered, HasLeft, HasNotEntered, HearsBy, DropsIf, HasChanged, IsLeft, IsMet, LetsGo, MovesOn, ReadersLeave, SendsIf};
+ghost use Rattle.station_files.specs.Places.{HasRoom, IsNext, TakesTurn, WaitsFor, has_had_a_minute, has_heard_all, is_finished, kinds_at, place_of as place_in, readers_in, station_at, turns_in, turns_with};
 ghost use Rattle.station_files.specs.Seat.{token_of};
+ghost use Rattle.station.specs.declared.station.Station.{Station as StationOf};
+ghost use Rattle.station_files.specs.declared.seats.Move.{Move as MoveOf};
+ghost use Rattle.station_files.specs.declared.seats.Past.{Past as PastOf};
 ghost use Rattle.station_files.specs.declared.seats.Seat.{Seat as SeatOf};
+ghost use Rattle.station_files.specs.declared.seats.Stations.{Stations as StationsOf};
 
 use disk_model::Disk;
 use link_chain::StreamState;
@@ -120,6 +132,9 @@ impl<D: Disk + Drop> Past<D> {
             × (get self.new.station.clients.slots key ≡ Some after)
             × HearsOn meeting.begun_end meeting.open.items meeting.begun.items heard client after)) }
         ensures none { self.old.meeting ≡ None → (result ≡ Ok tt) × (self.new ≡ self.old) }
+        ensures same { OnErr result ((other : ℕ) → get self.new.station.clients.slots other ≡ get self.old.station.clients.slots other) }
+        ensures others { OthersStay key self.old.station.clients self.new.station.clients }
+        ensures clients { self.new.station ≡ record self.old.station { clients = self.new.station.clients } }
         ensures rest { self.new ≡ record self.old { station = self.new.station } }
     {
         match &self.meeting {
@@ -130,6 +145,37 @@ impl<D: Disk + Drop> Past<D> {
                 meeting.begun.as_slice(),
             ),
             None => Ok(()),
+        }
+    }
+}
+
+impl<D: Disk + Drop> Past<D> {
+    /// The connection whose turn it is, if one has something to do.
+    fn next_turn(&mut self) -> Option<Seat>
+        ensures { IsNext result self.old self.new }
+    {
+        let Some(key) = self.station.next_turn() else {
+            return None;
+        };
+        Some(Seat {
+            station: self.number,
+            key,
+        })
+    }
+
+    /// A connection leaves, if it has heard all of the file. It returns what follows. The connection is gone if there was no
+    /// memory for it to hear on.
+    fn let_go(&mut self, key: usize) -> Option<(Option<Client>, Next)>
+        ensures { LetsGo D.Disk key result self.old self.new }
+    {
+        if !self.station.has_heard_all(key) {
+            return None;
+        }
+        let heard = self.hear_on(key);
+        let client = self.station.leave(key)?;
+        match heard {
+            Ok(()) => Some((Some(client), self.next)),
+            Err(_) => Some((None, self.next)),
         }
     }
 }
@@ -147,10 +193,10 @@ pub struct Stations<D: Disk> {
 
 /// Where the station with this number stands.
 fn place_of<D: Disk>(past: &[Past<D>], number: u64) -> Option<usize>
-    ensures inside { IfSome result (λ at. at < length past.now) }
+    ensures { result ≡ place_in number past.now }
 {
-    for (at, one) in past.iter().enumerate() {
-        if one.number == number {
+    for at in 0..past.len() {
+        if past[at].number == number {
             return Some(at);
         }
     }
@@ -211,7 +257,9 @@ fn take_reader<D: Disk + Drop>(station: &mut Station<D>, key: usize) -> Option<C
 
 /// How many of these stations, from the first on, have no connection.
 fn unread<D: Disk + Drop>(past: &[Past<D>]) -> usize
-    ensures { result ≤ length past.now }
+    ensures none { (at : ℕ) (one : PastOf D) → at < result → slice_get past.now at ≡ Some one → slab_len one.station.clients.slots ≡ 0 }
+    ensures next { (one : PastOf D) → slice_get past.now result ≡ Some one → slab_len one.station.clients.slots ≢ 0 }
+    ensures within { result ≤ length past.now }
 {
     for at in 0..past.len() {
         if past[at].station.connections() > 0 {
@@ -221,10 +269,45 @@ fn unread<D: Disk + Drop>(past: &[Past<D>]) -> usize
     past.len()
 }
 
+/// How many connections have a turn at these stations, beside so many.
+fn turns_with<D: Disk + Drop>(turns: usize, past: &[Past<D>]) -> usize
+    ensures { result ≡ turns_with turns past.now }
+{
+    let mut sum = turns;
+    for one in past {
+        sum = sum.saturating_add(one.station.turns());
+    }
+    sum
+}
+
+/// How many connections these stations have.
+fn readers_in<D: Disk + Drop>(past: &[Past<D>]) -> usize
+    ensures { result ≡ readers_in past.now }
+{
+    let mut sum: usize = 0;
+    for one in past {
+        sum = sum.saturating_add(one.station.connections());
+    }
+    sum
+}
+
+/// How many connections of each kind these stations have.
+fn kinds_in<D: Disk + Drop>(past: &[Past<D>]) -> Kinds
+    ensures { result ≡ kinds_at past.now }
+{
+    let mut kinds = Kinds::none();
+    for one in past {
+        kinds = kinds.and(one.station.kinds());
+    }
+    kinds
+}
+
 impl<D: Disk + Drop> Stations<D> {
     /// One station.
     pub fn new(alloc: Global, newest: Station<D>) -> Stations<D>
-        ensures { result.newest ≡ newest }
+        ensures newest { result.newest ≡ newest }
+        ensures past { (result.past.items ≡ []) × (result.last ≡ 0) }
+        ensures moves { result.moves.items ≡ [] }
     {
         Stations {
             alloc,
@@ -243,7 +326,10 @@ impl<D: Disk + Drop> Stations<D> {
     }
 
     /// The same, to be changed.
-    pub fn newest_mut(&mut self) -> &mut Station<D> {
+    pub fn newest_mut(&mut self) -> &mut Station<D>
+        ensures value { result.now ≡ self.old.newest }
+        ensures* writes_back { sem 𝓛 (LendsNewest D.row D.Disk self.entry result) }
+    {
         &mut self.newest
     }
 
@@ -273,12 +359,10 @@ impl<D: Disk + Drop> Stations<D> {
     }
 
     /// How many connections have a turn.
-    pub fn turns(&self) -> usize {
-        let mut turns = self.newest.turns();
-        for past in &self.past {
-            turns = turns.saturating_add(past.station.turns());
-        }
-        turns
+    pub fn turns(&self) -> usize
+        ensures { result ≡ turns_in self.now }
+    {
+        turns_with(self.newest.turns(), self.past.as_slice())
     }
 
     /// How many stations there are: the newest, and those over files that have ended.
@@ -290,7 +374,11 @@ impl<D: Disk + Drop> Stations<D> {
 
     /// How many connections have a turn at one of the stations: the newest is at 0, and those over files that have ended
     /// follow, the oldest first.
-    pub fn turns_at(&self, at: usize) -> usize {
+    pub fn turns_at(&self, at: usize) -> usize
+        ensures newest { at ≡ 0 → result ≡ self.now.newest.clients.turns.len }
+        ensures past { (one : PastOf D) → at ≢ 0 → slice_get self.now.past.items (at - 1) ≡ Some one → result ≡ one.station.clients.turns.len }
+        ensures none { at ≢ 0 → slice_get self.now.past.items (at - 1) ≡ None → result ≡ 0 }
+    {
         if at == 0 {
             return self.newest.turns();
         }
@@ -301,34 +389,43 @@ impl<D: Disk + Drop> Stations<D> {
     }
 
     /// The connection whose turn it is at one of them, if one has something to do there.
-    pub fn next_turn_at(&mut self, at: usize) -> Option<Seat> {
+    pub fn next_turn_at(&mut self, at: usize) -> Option<Seat>
+        ensures newest { at ≡ 0 → (self.new ≡ record self.old { newest = self.new.newest })
+            × IfSome result (λ seat. (seat.station ≡ 0) × TakesTurn seat.key self.old.newest self.new.newest) }
+        ensures past { (one : PastOf D) → at ≢ 0 → slice_get self.old.past.items (at - 1) ≡ Some one → (after : PastOf D) × IsNext result one after
+            × (self.new.past.items ≡ slice_set self.old.past.items (at - 1) after) }
+        ensures idle { at ≡ 0 → result ≡ None → self.old.newest.clients.turns.items ≡ [] }
+        ensures none { at ≢ 0 → slice_get self.old.past.items (at - 1) ≡ None → (result ≡ None) × (self.new ≡ self.old) }
+    {
         if at == 0 {
             let key = self.newest.next_turn()?;
             return Some(Seat { station: 0, key });
         }
-        let past = self.past.get_mut(at.saturating_sub(1))?;
-        let key = past.station.next_turn()?;
-        Some(Seat {
-            station: past.number,
-            key,
-        })
+        self.past.get_mut(at.saturating_sub(1))?.next_turn()
     }
 
     /// A connection was made: the newest takes it, as [`Station::accepted`] has it. There may be so many in all: those who
     /// read files that have ended count as the others do, and so do so many that are elsewhere.
-    pub fn accepted(
-        &mut self,
-        most: usize,
-        elsewhere: usize,
-        now: u64,
-    ) -> Result<usize, Unaccepted> {
+    pub fn accepted(&mut self, most: usize, elsewhere: usize, now: u64) -> Result<usize, Unaccepted>
+        ensures full { (result ≡ Err Unaccepted.Full)
+            ↔ ((64 ≤ slab_len self.old.newest.clients.slots - (most - sum (readers_in self.old.past.items) elsewhere)) ⊎ (self.old.newest.ending ≢ None)) }
+        ensures some { slab_len self.old.newest.clients.slots < most - sum (readers_in self.old.past.items) elsewhere
+            → IfOk result (λ key. get self.new.newest.clients.slots key ≡ Some (fresh now)) }
+        ensures none { IfOk result (λ key. get self.old.newest.clients.slots key ≡ None) }
+        ensures others { IfOk result (λ key. OthersStay key self.old.newest.clients self.new.newest.clients) }
+        ensures live { self.new.newest.live ≡ self.old.newest.live }
+        ensures rest { self.new ≡ record self.old { newest = self.new.newest } }
+    {
         let others = self.readers().saturating_add(elsewhere);
         self.newest.allow(most.saturating_sub(others));
         self.newest.accepted(now)
     }
 
     /// How many milliseconds may be waited, if nothing comes, until there is something to do.
-    pub fn until_next(&self, now: u64) -> u64 {
+    pub fn until_next(&self, now: u64) -> u64
+        ensures turn { turns_in self.now ≢ 0 → result ≡ 0 }
+        ensures none { turns_in self.now ≡ 0 → WaitsFor D.Disk now result self.now.newest }
+    {
         if self.turns() > 0 {
             return 0;
         }
@@ -336,40 +433,51 @@ impl<D: Disk + Drop> Stations<D> {
     }
 
     /// Once a second everybody has a turn, and who was silent for too long is cut. It returns whether the second is over.
-    pub fn look(&mut self, now: u64) -> bool {
+    pub fn look(&mut self, now: u64) -> bool
+        ensures early { now - self.old.newest.looked < 1000 → result ≡ false }
+        ensures late { 1000 ≤ now - self.old.newest.looked → (result ≡ true) × AreLookedAt now self.old.newest.clients self.new.newest.clients }
+    {
+        self.look_at_past(now);
+        self.newest.look(now)
+    }
+
+    /// The same for those who read files that have ended.
+    fn look_at_past(&mut self, now: u64)
+        ensures rest { self.new ≡ record self.old { past = self.new.past } }
+    {
         for at in 0..self.past.len() {
             if let Some(past) = self.past.get_mut(at) {
                 past.station.look(now);
             }
         }
-        self.newest.look(now)
     }
 
     /// How many connections there are at stations over files that have ended.
-    pub fn readers(&self) -> usize {
-        let mut readers: usize = 0;
-        for past in &self.past {
-            readers = readers.saturating_add(past.station.connections());
-        }
-        readers
+    pub fn readers(&self) -> usize
+        ensures { result ≡ readers_in self.now.past.items }
+    {
+        readers_in(self.past.as_slice())
     }
 
     /// How many connections there are of each kind at stations over files that have ended.
-    pub fn kinds(&self) -> Kinds {
-        let mut kinds = Kinds::none();
-        for past in &self.past {
-            kinds = kinds.and(past.station.kinds());
-        }
-        kinds
+    pub fn kinds(&self) -> Kinds
+        ensures { result ≡ kinds_at self.now.past.items }
+    {
+        kinds_in(self.past.as_slice())
     }
 
     /// Whether the newest has come to its end, and nobody reads a file that has ended, or those who do have had a minute.
-    pub fn is_finished(&self, now: u64) -> bool {
+    pub fn is_finished(&self, now: u64) -> bool
+        ensures { result ≡ (is_finished now self.now.newest
+            && (readers_in self.now.past.items == 0 || has_had_a_minute self.now.newest.ending now)) }
+    {
         self.newest.is_finished(now) && (self.readers() == 0 || self.has_waited(now))
     }
 
     /// Whether those who read files that have ended have had a minute since the newest comes to its end.
-    pub fn has_waited(&self, now: u64) -> bool {
+    pub fn has_waited(&self, now: u64) -> bool
+        ensures { result ≡ has_had_a_minute self.now.newest.ending now }
+    {
         match self.newest.ending() {
             Some(since) => MOST_ENDING <= now.saturating_sub(since),
             None => false,
@@ -377,7 +485,10 @@ impl<D: Disk + Drop> Stations<D> {
     }
 
     /// Whether a connection reads the file that is recorded.
-    fn is_read(&self) -> bool {
+    fn is_read(&self) -> bool
+        ensures yes { result ≡ true → (key : ℕ) × ReadsFile (get self.now.newest.clients.slots key) }
+        ensures no { result ≡ false → (key : ℕ) → ¬ (ReadsFile (get self.now.newest.clients.slots key)) }
+    {
         for key in 0..self.newest.keys() {
             if self.newest.reads_file(key) {
                 return true;
@@ -387,7 +498,12 @@ impl<D: Disk + Drop> Stations<D> {
     }
 
     /// Makes the room that a change of the file needs.
-    pub fn prepare(&mut self) -> Result<(), Memory> {
+    pub fn prepare(&mut self) -> Result<(), Memory>
+        ensures room { OnOk result (HasRoom self.new) }
+        ensures moves { self.new.moves.items ≡ self.old.moves.items }
+        ensures past { self.new.past.items ≡ self.old.past.items }
+        ensures rest { self.new ≡ record self.old { past = self.new.past; moves = self.new.moves } }
+    {
         self.past.reserve(1)?;
         self.moves.reserve(self.newest.keys())
     }
@@ -395,12 +511,30 @@ impl<D: Disk + Drop> Stations<D> {
     /// The file that was recorded is left, and `live` has the next one, or the same, opened again: it is recorded and served
     /// from now on. Who reads the one before goes on to, at a station of its own. It has one also if nobody reads it, while an
     /// older one is read: who hears that comes to this one next.
-    pub fn change(&mut self, live: LiveHub<D>, next: Next) {
-        if !self.is_read() && self.past.is_empty() {
-            self.newest.change(live);
+    pub fn change(&mut self, live: LiveHub<D>, next: Next)
+        ensures { HasChanged live next self.old self.new }
+    {
+        let is_alone = self.is_alone();
+        let before = self.newest.change(live);
+        if is_alone {
             return;
         }
-        let before = self.newest.change(live);
+        self.leave_file(before, next);
+    }
+
+    /// Whether nobody reads the file that is recorded, nor one before it.
+    fn is_alone(&self) -> bool
+        ensures yes { result ≡ true → ((key : ℕ) → ¬ (ReadsFile (get self.now.newest.clients.slots key))) × (self.now.past.items ≡ []) }
+        ensures no { result ≡ false → ((key : ℕ) × ReadsFile (get self.now.newest.clients.slots key)) ⊎ (self.now.past.items ≢ []) }
+    {
+        !self.is_read() && self.past.is_empty()
+    }
+
+    /// Who reads the file before goes on to, at a station of its own.
+    fn leave_file(&mut self, before: LiveHub<D>, next: Next)
+        ensures left { HasRoom self.old → IsLeft before next self.old self.new }
+        ensures readers { ReadersLeave self.old.newest self.new.newest }
+    {
         let number = self.last.saturating_add(1);
         self.last = number;
         match Station::over(self.alloc, before, self.newest.keys()) {
@@ -421,8 +555,7 @@ impl<D: Disk + Drop> Stations<D> {
     /// In the file that is recorded now the link goes on that was open at the end of the one before: who hears that hears
     /// on. Call it after `change`, before anybody has a turn.
     pub fn goes_on(&mut self, meeting: Meeting)
-        ensures rest { self.new ≡ record self.old { past = self.new.past } }
-        ensures none { self.old.past.items ≡ [] → self.new ≡ self.old }
+        ensures { IsMet meeting self.old self.new }
     {
         if let Some(past) = self.past.last_mut() {
             if past.number == self.last {
@@ -433,28 +566,64 @@ impl<D: Disk + Drop> Stations<D> {
     }
 
     /// Who reads the file before moves to the station over it.
-    fn send_readers(&mut self, past: &mut Past<D>) {
+    fn send_readers(&mut self, past: &mut Past<D>)
+        ensures sent { vec_len self.old.moves + self.old.newest.clients.slots.capacity ≤ vec_capacity self.old.moves → (sent : List MoveOf)
+            × (self.new.moves.items ≡ self.old.moves.items ++ sent)
+            × AreSent past.old.number sent self.old.newest self.new.newest past.old.station past.new.station }
+        ensures readers { ReadersLeave self.old.newest self.new.newest }
+        ensures past { past.new ≡ record past.old { station = past.new.station } }
+        ensures rest { self.new ≡ record self.old { newest = self.new.newest; moves = self.new.moves } }
+    {
         for key in 0..self.newest.keys() {
-            if let Some(client) = take_reader(&mut self.newest, key) {
-                let to = enter(&mut past.station, past.number, client);
-                self.note_move(key, to);
-            }
+            self.send_reader(past, key);
         }
     }
 
+    /// If this connection reads the file before it moves to the station over it.
+    fn send_reader(&mut self, past: &mut Past<D>, key: usize)
+        ensures sent { SendsIf past.old.number key self.old self.new past.old.station past.new.station }
+        ensures others { OthersStay key self.old.newest.clients self.new.newest.clients }
+        ensures room { (vec_capacity self.old.moves ≤ vec_capacity self.new.moves) × (vec_len self.new.moves ≤ vec_len self.old.moves + 1) }
+        ensures past { past.new ≡ record past.old { station = past.new.station } }
+        ensures rest { self.new ≡ record self.old { newest = self.new.newest; moves = self.new.moves } }
+    {
+        let Some(client) = take_reader(&mut self.newest, key) else {
+            return;
+        };
+        let to = enter(&mut past.station, past.number, client);
+        self.note_move(key, to);
+    }
+
     /// Who reads the file before has no seat any more.
-    fn drop_readers(&mut self) {
+    fn drop_readers(&mut self)
+        ensures dropped { vec_len self.old.moves + self.old.newest.clients.slots.capacity ≤ vec_capacity self.old.moves → (sent : List MoveOf)
+            × (self.new.moves.items ≡ self.old.moves.items ++ sent) × AreDropped sent self.old.newest self.new.newest }
+        ensures readers { ReadersLeave self.old.newest self.new.newest }
+        ensures rest { self.new ≡ record self.old { newest = self.new.newest; moves = self.new.moves } }
+    {
         for key in 0..self.newest.keys() {
-            if take_reader(&mut self.newest, key).is_some() {
-                self.note_move(key, None);
-            }
+            self.drop_reader(key);
         }
+    }
+
+    /// If this connection reads the file before it has no seat any more.
+    fn drop_reader(&mut self, key: usize)
+        ensures dropped { DropsIf key self.old self.new }
+        ensures others { OthersStay key self.old.newest.clients self.new.newest.clients }
+        ensures room { (vec_capacity self.old.moves ≤ vec_capacity self.new.moves) × (vec_len self.new.moves ≤ vec_len self.old.moves + 1) }
+        ensures rest { self.new ≡ record self.old { newest = self.new.newest; moves = self.new.moves } }
+    {
+        let Some(_client) = take_reader(&mut self.newest, key) else {
+            return;
+        };
+        self.note_move(key, None);
     }
 
     /// A connection of the newest has another seat, or none. The room for it was made.
     fn note_move(&mut self, key: usize, to: Option<Seat>)
         ensures noted { vec_len self.old.moves < vec_capacity self.old.moves
             → self.new.moves.items ≡ self.old.moves.items ++ record { from = record { station = 0; key = key }; to = to } ∷ [] }
+        ensures room { (vec_capacity self.old.moves ≤ vec_capacity self.new.moves) × (vec_len self.new.moves ≤ vec_len self.old.moves + 1) }
         ensures rest { self.new ≡ record self.old { moves = self.new.moves } }
     {
         let from = Seat { station: 0, key };
@@ -462,22 +631,35 @@ impl<D: Disk + Drop> Stations<D> {
     }
 
     /// After a turn of this connection: if it has heard all of a file that was left it hears what follows, at another seat.
-    pub fn move_on(&mut self, seat: Seat) {
+    pub fn move_on(&mut self, seat: Seat)
+        ensures nowhere { place_in seat.station self.old.past.items ≡ None → self.new ≡ self.old }
+        ensures moves { (at : ℕ) (past : PastOf D) → place_in seat.station self.old.past.items ≡ Some at
+            → slice_get self.old.past.items at ≡ Some past → MovesOn D.Disk at seat past self.old self.new }
+    {
         let Some(at) = place_of(self.past.as_slice(), seat.station) else {
             return;
         };
         let Some((client, next)) = self.leave(at, seat.key) else {
             return;
         };
-        let to = match client {
-            Some(client) => self.enter_after(at, client, next),
-            None => None,
-        };
+        let to = self.enter_if(at, client, next);
         let _ = self.moves.push(Move { from: seat, to });
     }
 
+    /// A connection that has heard all of a file that was left enters the station over the one that follows, if it isn't gone.
+    fn enter_if(&mut self, at: usize, client: Option<Client>, next: Next) -> Option<Seat>
+        ensures { EntersIf (min (at + 1) (2 ^ 64 - 1)) next client result self.old self.new }
+    {
+        match client {
+            Some(client) => self.enter_after(at, client, next),
+            None => None,
+        }
+    }
+
     /// A connection has heard all of a file that was left, and enters the station over the one that follows.
-    fn enter_after(&mut self, at: usize, client: Client, next: Next) -> Option<Seat> {
+    fn enter_after(&mut self, at: usize, client: Client, next: Next) -> Option<Seat>
+        ensures { EntersBehind (slice_get self.old.past.items (min (at + 1) (2 ^ 64 - 1))) (min (at + 1) (2 ^ 64 - 1)) next client result self.old self.new }
+    {
         match self.past.get_mut(at.saturating_add(1)) {
             Some(past) => enter_next(&mut past.station, past.number, client, next),
             None => enter_next(&mut self.newest, 0, client, next),
@@ -486,21 +668,22 @@ impl<D: Disk + Drop> Stations<D> {
 
     /// A connection leaves a station over a file that was left, if it has heard all of that. It returns what follows. The
     /// connection is gone if there was no memory for it to hear on.
-    fn leave(&mut self, at: usize, key: usize) -> Option<(Option<Client>, Next)> {
-        let past = self.past.get_mut(at)?;
-        if !past.station.has_heard_all(key) {
-            return None;
-        }
-        let heard = past.hear_on(key);
-        let client = past.station.leave(key)?;
-        match heard {
-            Ok(()) => Some((Some(client), past.next)),
-            Err(_) => Some((None, past.next)),
-        }
+    fn leave(&mut self, at: usize, key: usize) -> Option<(Option<Client>, Next)>
+        ensures nobody { slice_get self.old.past.items at ≡ None → (result ≡ None) × (self.new ≡ self.old) }
+        ensures leaves { (past : PastOf D) → slice_get self.old.past.items at ≡ Some past → (after : PastOf D) × LetsGo D.Disk key result past after
+            × (self.new.past.items ≡ slice_set self.old.past.items at after) }
+        ensures rest { self.new ≡ record self.old { past = self.new.past } }
+    {
+        self.past.get_mut(at)?.let_go(key)
     }
 
     /// A file that has ended is closed once nobody reads it or an older one.
-    pub fn close_unread(&mut self) {
+    pub fn close_unread(&mut self)
+        ensures closed { (count : ℕ) × (self.new.past.items ≡ drop count self.old.past.items)
+            × ((at : ℕ) (one : PastOf D) → at < count → slice_get self.old.past.items at ≡ Some one → slab_len one.station.clients.slots ≡ 0) }
+        ensures next { (one : PastOf D) (later : List (PastOf D)) → self.new.past.items ≡ one ∷ later → slab_len one.station.clients.slots ≢ 0 }
+        ensures rest { self.new ≡ record self.old { past = self.new.past } }
+    {
         let count = unread(self.past.as_slice());
         self.past.drain(..count);
     }

@@ -1,4 +1,4 @@
-use Rattle.std.proofs.Common.{◌≡◌, Option, Some, None, Result, Ok, Err, List, sym, ap, subst}
+use Rattle.std.proofs.Common.{◌≡◌, Option, Some, Result, Ok, Err, List, sym, subst}
 use Rattle.std.specs.Prelude.{IfSome, OnOk}
 use Rattle.link_chain.specs.declared.stream_state.StreamState.{StreamState}
 use Rattle.station.specs.Changing.{HearsOn}
