@@ -103,10 +103,12 @@ impl<D: Disk + Drop, R: Recorded<D> + Shelf<D> + Drop> Running<'_, D, R> {
     fn round(&mut self) -> Result<bool, Fault> {
         let crowded = self.accept();
         self.take_input();
+        // A step wakes nobody whom a look has just woken, so that nobody has a second turn for nothing.
+        self.look();
         let recording = self.record()?;
         self.serve();
         self.serve_fetches();
-        self.tell();
+        self.log.tell(&mut self.keeper.told);
         Ok(crowded || recording)
     }
 
@@ -404,9 +406,8 @@ impl<D: Disk + Drop, R: Recorded<D> + Shelf<D> + Drop> Running<'_, D, R> {
         }
     }
 
-    /// Tells how it goes: what is in the log, and once a second the line at a terminal.
-    fn tell(&mut self) {
-        self.log.tell(&mut self.keeper.told);
+    /// Once a second everybody has a turn, and the line at a terminal tells how it goes.
+    fn look(&mut self) {
         if self.stations.look(self.now) {
             let elsewhere = self.requests.fetches.kinds().and(self.stations.kinds());
             self.stations.newest_mut().tell_elsewhere(elsewhere);
